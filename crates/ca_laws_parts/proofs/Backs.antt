@@ -2,15 +2,17 @@
 -- each was there before.
 use Rattle.std.proofs.Common.{◌≡◌, ℕ, ◌⊎◌, inl, inr, Bool, true, false, cond, List, [], ◌∷◌, Option, Some, None, refl, sym, ap, ◌∙◌, subst}
 use Rattle.std.specs.Prelude.{◌==◌, fold, length, is_none, not, option_and_then, option_map, unwrap_or}
+use Rattle.std.proofs.lemmas.Bool.{both_ways}
 use Rattle.ca_arena.specs.declared.handle.Handle.{Handle}
 use Rattle.ca_ids.specs.Table.{Table, under, with_changed, with_freed}
-use Rattle.ca_monitor.specs.Subscriptions.{Subscription, drains_in, stands_in}
+use Rattle.ca_monitor.specs.Subscriptions.{Subscription, drains_in, is_cancelled_in, stands_in}
 use Rattle.ca_requests.specs.Requests.{Request, was_sent_on}
 use Rattle.ca_model.specs.Answers.{Sending}
 use Rattle.ca_model.specs.Client.{Channel, Clearing, Client, ClientCircuit, Connecting, Creating, Doomed, Leaving, Live, On, Phase, Searching, Standing, channels_ended, channels_on, connection_at, disconnected, ended, is_cleared, let_go, searched_again, sending, with_one_sent, without_channel, without_circuit, without_ids}
 use Rattle.ca_model.specs.ClientCalls.{unwanted}
 use Rattle.ca_model.proofs.Tables.{all-freed-back, changed-back, freed-back, one-value}
 use Rattle.ca_laws_parts.proofs.Filtered.{requests-ended}
+use Rattle.ca_laws_parts.proofs.Rests.{OverAt, is_over}
 
 -- The channel of this handle stood on the circuit so that as much was known of it.
 abbrev pub Was : (on : Handle) → Table Channel → Handle → Phase → Type 0
@@ -18,6 +20,8 @@ Was on t h (Live n rights) = (ch : Channel) × (s : ℕ) × (under t h ≡ Some 
 Was on t h (Creating rights) = (ch : Channel) × (s : ℕ) × (under t h ≡ Some ch) × (ch.standing ≡ On on (Creating s))
 Was on t h Doomed =
     (ch : Channel) × (p : Phase) × (under t h ≡ Some ch) × (ch.standing ≡ On on p) × ((p ≡ Doomed) ⊎ ((s : ℕ) × (p ≡ Creating s)))
+Was on t h Leaving = OverAt on t h
+Was on t h Clearing = OverAt on t h
 Was on t h p = Unit {0}
 
 abbrev pub BacksOn : (on : Handle) (t u : Table Channel) → Type 0
@@ -42,18 +46,42 @@ subscribes-on t u subs g d e was is =
     let one : b.0 ≡ d = one-value t g b.0 d b.1 was in
     (b.2 ∙ ap (λ (z : Subscription). z.channel) one, λ s. subst (λ (z : Subscription). stands_in z.stage ≡ true) one (b.3 s))
 
+-- each subscription of the other that was cancelled on a circuit was so before
+abbrev pub CancelsAs : (t u : Table Subscription) → Type 0
+CancelsAs t u = (o g : Handle) (d : Subscription) → under u g ≡ Some d → is_cancelled_in o d.stage ≡ true
+    → (e : Subscription) × (under t g ≡ Some e) × (is_cancelled_in o e.stage ≡ true)
+
+-- as it is if each was there
+pub cancels-there : (t u : Table Subscription) → ((g : Handle) (d : Subscription) → under u g ≡ Some d → under t g ≡ Some d) → CancelsAs t u
+cancels-there t u was o g d is stops = (d, was g d is, stops)
+
+pub cancels-as-same : (t u : Table Subscription) → u ≡ t → CancelsAs t u
+cancels-as-same t u same = cancels-there t u (λ g d is. subst (λ (w : Table Subscription). under w g ≡ Some d) same is)
+
 pub record Backs (on : Handle) (x y : Client) : Type 0 where
   pub channels : BacksOn on x.channels y.channels
   pub requests : AsksAs x.requests y.requests
   pub subscriptions : SubscribesAs x.subscriptions y.subscriptions
+  pub cancelled : CancelsAs x.subscriptions y.subscriptions
 
 pub was-same : (on : Handle) (t : Table Channel) (h : Handle) (ch : Channel) (p : Phase) → under t h ≡ Some ch → ch.standing ≡ On on p → Was on t h p
 was-same on t h ch (Live n rights) there stands = (ch, rights, there, stands)
 was-same on t h ch (Creating rights) there stands = (ch, rights, there, stands)
 was-same on t h ch Doomed there stands = (ch, Doomed, there, stands, inl refl)
 was-same on t h ch Connecting there stands = tt
-was-same on t h ch Leaving there stands = tt
-was-same on t h ch Clearing there stands = tt
+was-same on t h ch Leaving there stands = (ch, Leaving, there, stands, refl)
+was-same on t h ch Clearing there stands = (ch, Clearing, there, stands, refl)
+
+over-was : (on : Handle) (t : Table Channel) (h : Handle) (p : Phase) → is_over p ≡ true → Was on t h p → OverAt on t h
+over-was on t h Leaving is was = was
+over-was on t h Clearing is was = was
+over-was on t h Connecting is was = absurd (both_ways false refl is)
+over-was on t h (Creating rights) is was = absurd (both_ways false refl is)
+over-was on t h Doomed is was = absurd (both_ways false refl is)
+over-was on t h (Live n rights) is was = absurd (both_ways false refl is)
+
+pub over-back : (on : Handle) (t u : Table Channel) → BacksOn on t u → (h : Handle) → OverAt on u h → OverAt on t h
+over-back on t u back h o = over-was on t h o.1 o.4 (back h o.0 o.1 o.2 o.3)
 
 pub back-same : (on : Handle) (t u : Table Channel) → u ≡ t → BacksOn on t u
 back-same on t u same h ch p there stands = was-same on t h ch p (subst (λ (w : Table Channel). under w h ≡ Some ch) same there) stands
@@ -66,7 +94,12 @@ subscribes-as-same t u same g d is = (d, subst (λ (w : Table Subscription). und
 
 pub backs-same : (on : Handle) (x y : Client) → y.channels ≡ x.channels → y.requests ≡ x.requests → y.subscriptions ≡ x.subscriptions → Backs on x y
 backs-same on x y channels requests subscriptions =
-    record { channels = back-same on x.channels y.channels channels; requests = asks-as-same x.requests y.requests requests; subscriptions = subscribes-as-same x.subscriptions y.subscriptions subscriptions }
+    record {
+      channels = back-same on x.channels y.channels channels;
+      requests = asks-as-same x.requests y.requests requests;
+      subscriptions = subscribes-as-same x.subscriptions y.subscriptions subscriptions;
+      cancelled = cancels-as-same x.subscriptions y.subscriptions subscriptions;
+    }
 
 pub back-then : (on : Handle) (t u w : Table Channel) → BacksOn on t u → BacksOn on u w → BacksOn on t w
 back-then on t u w a b h ch p there stands = go p (b h ch p there stands)
@@ -82,8 +115,8 @@ back-then on t u w a b h ch p there stands = go p (b h ch p there stands)
     go (Creating rights) v = a h v.0 (Creating v.1) v.2 v.3
     go Doomed v = doomed v.0 v.1 v.2 v.3 v.4
     go Connecting v = tt
-    go Leaving v = tt
-    go Clearing v = tt
+    go Leaving v = over-back on t u a h v
+    go Clearing v = over-back on t u a h v
 
 pub subscribes-then : (t u w : Table Subscription) → SubscribesAs t u → SubscribesAs u w → SubscribesAs t w
 subscribes-then t u w a b g d is = (let e = b g d is in let f = a g e.0 e.1 in (f.0, f.1, e.2 ∙ f.2, λ s. f.3 (e.3 s)))
@@ -186,9 +219,12 @@ backs-ended on c x = go (under x.circuits c)
           requests =
               asks-back x.requests (let_go c d z).requests
               (λ q v is. (v, (all-freed-back (was_sent_on c) x.requests q v (subst (λ (t : Table Request). under t q ≡ Some v) (requests-ended c d y) is)).0, refl));
-          subscriptions = λ g v is.
-              (v, (all-freed-back (λ (s : Subscription). drains_in c s.stage) x.subscriptions g v (subst (λ (t : Table Subscription). under t g ≡ Some v) (s.2 ∙ subs-same) is)).0, refl, λ k. k);
+          subscriptions = λ g v is. (v, was s.2 g v is, refl, λ k. k);
+          cancelled = cancels-there x.subscriptions (let_go c d z).subscriptions (was s.2);
         }
+      where
+        was : (let_go c d z).subscriptions ≡ z.subscriptions → (g : Handle) (v : Subscription) → under (let_go c d z).subscriptions g ≡ Some v → under x.subscriptions g ≡ Some v
+        was same g v is = (all-freed-back (λ (s : Subscription). drains_in c s.stage) x.subscriptions g v (subst (λ (t : Table Subscription). under t g ≡ Some v) (same ∙ subs-same) is)).0
 
 -- the end that has ended is not connected
 pub ended-off : (c : Handle) (x : Client) → is_none (connection_at (ended c x) c) ≡ true

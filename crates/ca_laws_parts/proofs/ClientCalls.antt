@@ -43,7 +43,7 @@ use Rattle.ca_laws_parts.specs.ClientRows.{ClientAndConduct, Call, ClientsSendLe
 use Rattle.ca_laws_parts.specs.ClientRows as call
 use Rattle.ca_laws_parts.specs.Conduct.{nothing_done, with_all_sent, with_read}
 use Rattle.ca_laws_parts.proofs.CallsAsking.{few-thins, sound-cleared, sound-issued, sound-opened, sound-subscribed, sound-unsubscribed, sound-written}
-use Rattle.ca_laws_parts.proofs.Backs.{BacksOn, asks-as-same, sent-tables, subscribes-as-same, subscribes-on, was-same}
+use Rattle.ca_laws_parts.proofs.Backs.{BacksOn, asks-as-same, cancels-as-same, sent-tables, subscribes-as-same, subscribes-on, was-same}
 use Rattle.ca_laws_parts.proofs.Calling.{rests-begun}
 use Rattle.ca_laws_parts.proofs.Connecting.{all-begun, begun-at, begun-row, elsewhere, no-legal, no-told, sound-begun, sound-ended}
 use Rattle.ca_laws_parts.proofs.Finding.{sound-finds}
@@ -52,7 +52,7 @@ use Rattle.ca_laws_parts.proofs.Giving.{none-written}
 use Rattle.ca_laws_parts.proofs.Growing.{Asked, Grows, channel-forth, free-forth, grows-read, has-created, has-read, on-channel-forth, read-there, told-read, went-forth}
 use Rattle.ca_laws_parts.proofs.Reading.{Heard, sound-heard}
 use Rattle.ca_laws_parts.proofs.Sound.{Base, HeldAs, Sound, Stands}
-use Rattle.ca_laws_parts.proofs.Turns.{ArePlain, keeps-rests, none-plain, sent-nothing, sound-plain, sound-silent, sound-waits, talks}
+use Rattle.ca_laws_parts.proofs.Turns.{ArePlain, keeps-rests, none-plain, overs-back, sent-nothing, sound-plain, sound-silent, sound-waits, talks}
 
 -- what is known after these messages were sent
 abbrev Then : Handle → Client → List Sending → Conduct → Type 0
@@ -251,9 +251,9 @@ module _ (on : Handle) (x y : Client) (e : Conduct) (sent : List Sending) (sound
           let keeps = keeps-begun c d x there none in
           let subs = subscribes-as-same x.subscriptions x.subscriptions refl in
           sound-silent on x z e (few-thins x z keeps.thins sound.base.few) (keeps.placed sound.base.placed)
-          (record { channels = back; requests = asks-as-same x.requests x.requests refl; subscriptions = subs })
+          (record { channels = back; requests = asks-as-same x.requests x.requests refl; subscriptions = subs; cancelled = cancels-as-same x.subscriptions x.subscriptions refl })
           (λ connected. sym (keeps.links on (λ same. other (sym same))) ∙ connected)
-          (λ l s id at gives held. inl (keeps-rests on x z e (rests-begun on c x) (asks-as-same x.requests x.requests refl) (subscribes-on x.subscriptions x.subscriptions subs) l s id held)) sound
+          (λ l s id at gives held. inl (keeps-rests on x z e [] (overs-back on x z [] back) (rests-begun on c x) (asks-as-same x.requests x.requests refl) (subscribes-on x.subscriptions x.subscriptions subs) l s id held)) sound
 
   connects-then : (c : Handle) (o : Option ClientCircuit) (k : Option Closing) → unconnected x c ≡ o → ConnectsOn x c o k sent y
       → Then on y sent (before_sending on (call.Connected c k) e)
@@ -296,10 +296,10 @@ module _ (on : Handle) (x : Client) (c : Handle) (m : Fields) (e : Conduct) (sou
   held-now l s (Cid n) at held = held
   held-now l s (Ioid n) at held =
       (let lt : l < length e.sent = At-within e.sent l s at in
-      (held.0, held.1, held.2, held.3, held.4, held.5, went-forth e now grows l (wire_of held.1.channel) s (omega (arith, lt)) held.6))
+      (held.0, held.1, held.2, held.3, held.4, held.5, went-forth e now grows l (wire_of held.1.channel) s (omega (arith, lt)) held.6, held.7))
   held-now l s (SubId n) at held =
       (let lt : l < length e.sent = At-within e.sent l s at in
-      (held.0, held.1, held.2, held.3, held.4, went-forth e now grows l (wire_of held.1.channel) s (omega (arith, lt)) held.5, held.6))
+      (held.0, held.1, held.2, held.3, held.4, went-forth e now grows l (wire_of held.1.channel) s (omega (arith, lt)) held.5, held.6, held.7))
 
   base-now : Base on x now
   base-now = record {
@@ -307,6 +307,10 @@ module _ (on : Handle) (x : Client) (c : Handle) (m : Fields) (e : Conduct) (sou
     placed = sound.base.placed;
     told = told-read e m sound.base.told;
     adds = sound.base.adds;
+    stopped = λ g d l s there stops at gives. elim (sound.base.stopped g d l s there stops at gives) [
+      | inl free ↦ inl (free-forth e now grows l (length e.sent) (length e.sent) (omega arith) (omega arith) free)
+      | inr cancelled ↦ inr cancelled
+    ];
     held = λ connected l s id at gives. elim (sound.base.held connected l s id at gives) [
       | inl free ↦ inl (free-forth e now grows l (length e.sent) (length e.sent) (omega arith) (omega arith) free)
       | inr held ↦ inr (held-now l s id at held)
@@ -522,6 +526,7 @@ sound-new on a = record {
     };
     told = no-told;
     adds = λ g d ch n rights there stands on_it live. absurd (none-under g d there);
+    stopped = λ g d l s there stops at. absurd (none-at l s at);
     held = λ connected l s id at gives. absurd (none-at l s at);
     legal = no-legal;
   };

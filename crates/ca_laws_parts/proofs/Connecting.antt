@@ -32,8 +32,9 @@ use Rattle.ca_laws_parts.proofs.Backs.{backs-ended, ended-off, subscribes-on}
 use Rattle.ca_laws_parts.proofs.Calling.{rests-ended}
 use Rattle.ca_laws_parts.proofs.Giving.{given-connected}
 use Rattle.ca_laws_parts.proofs.Growing.{IsTold}
+use Rattle.ca_laws_parts.proofs.Rests.{is_over}
 use Rattle.ca_laws_parts.proofs.Sound.{Base, Sound, Turn, turned}
-use Rattle.ca_laws_parts.proofs.Turns.{keeps-rests, live-linked, sound-off, sound-silent, talks, turn-sending}
+use Rattle.ca_laws_parts.proofs.Turns.{keeps-rests, live-linked, overs-back, sound-off, sound-silent, talks, turn-sending}
 
 -- ---- an end ends
 
@@ -41,12 +42,12 @@ pub sound-ended : (on c : Handle) (x : Client) (e : Conduct) → Sound on x e �
 sound-ended on c x e sound = elim (handle-or c on) [
   | inl same ↦
       sound-off on x (ended c x) e (subst (λ (k : Handle). is_none (connection_at (ended c x) k) ≡ true) same (ended-off c x)) (few-thins x (ended c x) (ends-ended c x).thins sound.base.few)
-      ((ends-ended c x).placed sound.base.placed) sound.base
+      ((ends-ended c x).placed sound.base.placed) (backs-ended on c x).cancelled sound.base
   | inr other ↦
       let b = backs-ended on c x in
       sound-silent on x (ended c x) e (few-thins x (ended c x) (ends-ended c x).thins sound.base.few) ((ends-ended c x).placed sound.base.placed) b
       (λ connected. sym ((ends-ended c x).links on (λ same. other (sym same))) ∙ connected)
-      (λ l s id at gives held. inl (keeps-rests on x (ended c x) e (rests-ended on c x other) b.requests (subscribes-on x.subscriptions (ended c x).subscriptions b.subscriptions) l s id held)) sound
+      (λ l s id at gives held. inl (keeps-rests on x (ended c x) e [] (overs-back on x (ended c x) [] b.channels) (rests-ended on c x other) b.requests (subscribes-on x.subscriptions (ended c x).subscriptions b.subscriptions) l s id held)) sound
 ]
 
 -- ---- nothing goes out on another circuit
@@ -149,6 +150,7 @@ base-nothing on x off few placed = record {
   placed = placed;
   told = no-told;
   adds = λ g d ch n rights there stands on_it live. absurd (both_ways (is_none (connection_at x on)) (live-linked on x d.channel ch (Live n rights) placed on_it live refl) off);
+  stopped = λ g d l s there stops at. absurd (none-there l s at);
   held = λ connected l s id at gives. absurd (none-there l s at);
   legal = no-legal;
 }
@@ -191,6 +193,7 @@ module _ (on : Handle) (x : Client) (c : Handle) (d : ClientCircuit) (there : un
           | inr same ↦ absurd (both_ways (is_on_in is_connecting c r.0) same.0 (all-wait v.channel r.0 (Live n rights) r.1 (ap (λ (z : Channel). z.standing) (sym same.1) ∙ live)))
         ];
     cancelled = λ i s g v at here stops row it same. other i s 2 at stops refl (λ n. omega (arith, n));
+    stops = λ g v row stops. inl (v, row, stops);
     alone = λ i j s r at_s at_r ends. absurd (elim ends [
       | inl clears ↦ other i s 12 at_s clears refl (λ n. omega (arith, n))
       | inr stops ↦ other i s 2 at_s stops refl (λ n. omega (arith, n))
@@ -203,6 +206,12 @@ module _ (on : Handle) (x : Client) (c : Handle) (d : ClientCircuit) (there : un
       | inr (inr (inr (inr (inl stops)))) ↦ other i s 2 at stops refl (λ n. omega (arith, n))
       | inr (inr (inr (inr (inr clears)))) ↦ other i s 12 at clears refl (λ n. omega (arith, n))
     ]);
+    overs = λ h o.
+        let r = begun-row c x h o.0 o.2 in
+        elim r.2 [
+          | inl waits ↦ absurd (both_ways false refl (ap is_over (on-phase c c (Creating 0) o.1 (sym waits.1 ∙ o.3)) ∙ o.4))
+          | inr same ↦ absurd (both_ways (is_on_in is_connecting c r.0) same.0 (all-wait h r.0 o.1 r.1 (ap (λ (z : Channel). z.standing) (sym same.1) ∙ o.3)))
+        ];
     cancels = λ i s at here stops. absurd (other i s 2 at stops refl (λ n. omega (arith, n)));
     opens = λ connected. inr refl;
     linked = λ i s id at here gives. inr refl;

@@ -2,6 +2,7 @@
 -- circuit, whoever sent them.
 use Rattle.std.proofs.Common.{◌≡◌, ℕ, ◌⊎◌, inl, inr, false, List, [], ◌∷◌, Option, Some, None, refl, sym, ap, ◌∙◌, subst, arith}
 use Rattle.std.specs.Prelude.{is_none, option_and_then}
+use Rattle.std.proofs.lemmas.Bool.{both_ways}
 use Rattle.ca_text.specs.Place.{At}
 use Rattle.ca_arena.specs.declared.handle.Handle.{Handle}
 use Rattle.ca_ids.specs.Table.{Table, under, with_changed}
@@ -18,12 +19,12 @@ use Rattle.ca_model.proofs.Tables.{changed-back}
 use Rattle.ca_laws_parts.specs.ClientRows.{sent_on}
 use Rattle.ca_laws_parts.specs.Conduct.{with_all_sent}
 use Rattle.ca_laws_parts.proofs.CallsAsking.{few-thins}
-use Rattle.ca_laws_parts.proofs.Backs.{Backs, BacksOn, Was, asks-as-same, back-stood, backs-same, subscribes-as-same, subscribes-on}
+use Rattle.ca_laws_parts.proofs.Backs.{Backs, BacksOn, Was, asks-as-same, back-stood, backs-same, cancels-as-same, subscribes-as-same, subscribes-on}
 use Rattle.ca_laws_parts.proofs.Given.{Given, only-one}
 use Rattle.ca_laws_parts.proofs.Giving.{given-finds}
-use Rattle.ca_laws_parts.proofs.Rests.{Rests, rests-finds}
-use Rattle.ca_laws_parts.proofs.Sound.{Sound, Turn, turned}
-use Rattle.ca_laws_parts.proofs.Turns.{ArePlain, keeps-rests, none-plain, turn-plain}
+use Rattle.ca_laws_parts.proofs.Rests.{Rests, is_over, rests-finds}
+use Rattle.ca_laws_parts.proofs.Sound.{Overs, Sound, Turn, adds-held, turned}
+use Rattle.ca_laws_parts.proofs.Turns.{ArePlain, keeps-rests, none-plain, overs-back, turn-plain}
 
 module _ (on : Handle) (x : Client) (e : Conduct) (sound : Sound on x e) (address : Address) (cid : ℕ) (f : Effect) (finds : FindsAt x address (searched_by cid x) f) where
   abbrev Then : Type 0
@@ -45,7 +46,7 @@ module _ (on : Handle) (x : Client) (e : Conduct) (sound : Sound on x e) (addres
       turned on x f.core e f.sent sound.base
       (turn-plain on x f.core e f.sent sound.base sound.channels (few-thins x f.core keeps.thins sound.base.few) (keeps.placed sound.base.placed) b
       (λ connected. inl (sym (keeps.links on) ∙ connected))
-      (λ l s id at gives held. inl (keeps-rests on x f.core e rests b.requests (subscribes-on x.subscriptions f.core.subscriptions b.subscriptions) l s id held))
+      (λ l s id at gives held. inl (keeps-rests on x f.core e f.sent (overs-back on x f.core f.sent b.channels) rests b.requests (subscribes-on x.subscriptions f.core.subscriptions b.subscriptions) l s id held))
       (subst (λ (l : List Sending). ArePlain l) (sym none) none-plain)) given
 
   back-waiting : (c h : Handle) → BacksOn on x.channels (with_changed (λ (k : Channel). record k { standing = On c Connecting }) h x.channels)
@@ -58,6 +59,7 @@ module _ (on : Handle) (x : Client) (e : Conduct) (sound : Sound on x e) (addres
         subst (λ (t : Table Channel). BacksOn on x.channels (with_changed (λ (k : Channel). record k { standing = On c Connecting }) h t)) (sym channels) (back-waiting c h);
     requests = asks-as-same x.requests v.requests requests;
     subscriptions = subscribes-as-same x.subscriptions v.subscriptions subscriptions;
+    cancelled = cancels-as-same x.subscriptions v.subscriptions subscriptions;
   }
 
   -- the circuit is connected: its CREATE_CHAN goes out at once
@@ -84,6 +86,12 @@ module _ (on : Handle) (x : Client) (e : Conduct) (sound : Sound on x e) (addres
     no-live : (n : Native) (rights : ℕ) → Creating 0 ≡ Live n rights → ⊥
     no-live n rights e = cc
 
+    overs-asks : Overs on (asks ∷ []) x y
+    overs-asks g o = elim (row g o.0 o.2) [
+      | inr old ↦ inl (o.0, o.1, old, o.3, o.4)
+      | inl own ↦ absurd (both_ways false refl (ap is_over (on-phase c on (Creating 0) o.1 (sym own.1 ∙ o.3)) ∙ o.4))
+    ]
+
     turn-asks : Turn on x y e (asks ∷ [])
     turn-asks = record {
       few = few-thins x y same-keeps.thins sound.base.few;
@@ -103,10 +111,11 @@ module _ (on : Handle) (x : Client) (e : Conduct) (sound : Sound on x e) (addres
       ];
       cleared = λ i s g w p at there clears is stands same. absurd (not-it i s 12 at clears (λ n. omega (arith, n)));
       adds = λ g d w n rights at stands on_it live. elim (row d.channel w on_it) [
-        | inr old ↦ inl (sound.base.adds g d w n rights at stands old live)
+        | inr old ↦ inl (adds-held on x e sound.base g d w n rights at stands old live)
         | inl own ↦ absurd (no-live n rights (on-phase c on (Creating 0) (Live n rights) (sym own.1 ∙ live)))
       ];
       cancelled = λ i s g d at there stops row it same. not-it i s 2 at stops (λ n. omega (arith, n));
+      stops = λ g d at stops. inl (d, at, stops);
       alone = λ i j s r at_s at_r ends. (only-one asks s i at_s).0 ∙ sym (only-one asks r j at_r).0;
       goes = λ i s at there which. absurd (elim which [
         | inl reads ↦ not-it i s 15 at reads (λ n. omega (arith, n))
@@ -116,13 +125,14 @@ module _ (on : Handle) (x : Client) (e : Conduct) (sound : Sound on x e) (addres
         | inr (inr (inr (inr (inl stops)))) ↦ not-it i s 2 at stops (λ n. omega (arith, n))
         | inr (inr (inr (inr (inr clears)))) ↦ not-it i s 12 at clears (λ n. omega (arith, n))
       ]);
+      overs = overs-asks;
       cancels = λ i s at there stops. absurd (not-it i s 2 at stops (λ n. omega (arith, n)));
       opens = λ now. inl (sym (same-keeps.links on) ∙ now);
       linked = λ i s id at there gives.
           (let c_on : c ≡ on = ap (λ (z : Sending). z.circuit) (sym (only-one asks s i at).1) ∙ there in
           inl (subst (λ (o : Handle). is_none (connection_at x o) ≡ false) c_on (ap (λ (o : Option Connection). is_none o) connected)));
       keeps = λ l s id at gives held.
-          inl (keeps-rests on x y e (subst (λ (v : Effect). Rests on x v.core) is rests) (asks-as-same x.requests x.requests refl)
+          inl (keeps-rests on x y e (asks ∷ []) overs-asks (subst (λ (v : Effect). Rests on x v.core) is rests) (asks-as-same x.requests x.requests refl)
           (subscribes-on x.subscriptions x.subscriptions (subscribes-as-same x.subscriptions x.subscriptions refl)) l s id held);
     }
 

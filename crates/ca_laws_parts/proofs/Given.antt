@@ -36,10 +36,10 @@ IsIdle on x id = (other : Id) (m : Fields) → HeldBy on x m other → SameIndex
 
 -- It is held by what the message frees that was read.
 abbrev pub GoneBy : (on : Handle) → Client → (read m : Fields) → Id → Type 0
-GoneBy on x read m (Cid n) = (h : Handle) × (v : Channel) × (under x.channels h ≡ Some v) × (wire_of h ≡ n) × (is_on_in is_asked on v ≡ true) × FreesCid read h
+GoneBy on x read m (Cid n) = (h : Handle) × (v : Channel) × (under x.channels h ≡ Some v) × (wire_of h ≡ n) × (is_on_in is_asked on v ≡ true) × FreesCid on x read h
 GoneBy on x read m (Ioid n) =
-    (q : Handle) × (r : Request) × (under x.requests q ≡ Some r) × (wire_of q ≡ n) × (was_sent_on on r ≡ true) × (m.command ≡ command_number (command_of r.asked)) × FreesIoid read q r
-GoneBy on x read m (SubId n) = (g : Handle) × (d : Subscription) × (under x.subscriptions g ≡ Some d) × (wire_of g ≡ n) × (has_id x.channels on d ≡ true) × FreesSub read g d
+    (q : Handle) × (r : Request) × (under x.requests q ≡ Some r) × (wire_of q ≡ n) × (was_sent_on on r ≡ true) × (m.command ≡ command_number (command_of r.asked)) × FreesIoid on x read q r
+GoneBy on x read m (SubId n) = (g : Handle) × (d : Subscription) × (under x.subscriptions g ≡ Some d) × (wire_of g ≡ n) × (has_id x.channels on d ≡ true) × FreesSub on x read g d
 
 pub rests-held : (on : Handle) (x y : Client) (m : Fields) (id : Id) → Rests on x y → HeldBy on x m id → HeldBy on y m id
 rests-held on x y m (Cid n) r held = (let w = r.channels held.0 held.1 held.2 held.4 in (held.0, w.0, w.1, held.3, w.2))

@@ -6,8 +6,8 @@ use Rattle.ca_text.specs.declared.command.Command.TheVariants as command
 use Rattle.ca_text.specs.Place.{At}
 use Rattle.ca_text.proofs.Places.{At-after, At-append, At-last, At-parts, At-snoc, At-within}
 use Rattle.ca_wire.specs.Fields.{Fields}
-use Rattle.ca_model.specs.Sends.{Conduct, Frees, HasChannel, IsDisconnect, IsFree, IsUncancelled, ReadsBetween}
-use Rattle.ca_model.specs.Speech.{Cid, Creates, Gives, Is, sid_in}
+use Rattle.ca_model.specs.Sends.{Conduct, Frees, HasChannel, HasCleared, IsDisconnect, IsFree, IsUncancelled, ReadsBetween}
+use Rattle.ca_model.specs.Speech.{Cid, Creates, Gives, Is, SubId, sid_in}
 use Rattle.ca_model.proofs.Tables.{length-more}
 use Rattle.ca_laws_parts.specs.Conduct.{with_all_sent, with_read}
 
@@ -43,11 +43,12 @@ StaysConnected e i j cid = (l : ℕ) (r : Fields) → j < l → ReadsBetween e i
 abbrev pub HasNow : Conduct → (i j cid sid : ℕ) → Type 0
 HasNow e i j cid sid = HasChannel e (length e.sent) i j cid sid × StaysConnected e i j cid
 
--- By now an EVENT_ADD of this id went out under this SID, and was not cancelled.
+-- By now an EVENT_ADD of this id went out under this SID, the last that gave it, and was not
+-- cancelled.
 abbrev pub Added : Conduct → (sid id : ℕ) → Type 0
 Added e sid id =
     (l : ℕ) × (add : Fields) × At e.sent l add × Is command.EventAdd add × (add.p1 ≡ sid) × (add.p2 ≡ id)
-    × IsUncancelled e l (length e.sent) add
+    × IsUncancelled e l (length e.sent) add × ((q : ℕ) (r : Fields) → l < q → At e.sent q r → Gives r (SubId id) → ⊥)
 
 -- Message s went out at place l on the channel with this CID.
 abbrev pub Went : Conduct → (l cid : ℕ) → Fields → Type 0
@@ -83,18 +84,30 @@ module _ (e f : Conduct) (grows : Grows e f) where
   pub uncancelled-forth : (l b : ℕ) (add : Fields) → b ≤ length e.sent → IsUncancelled e l b add → IsUncancelled f l b add
   uncancelled-forth l b add le u i s late before at is sid = u i s late before (grows.back i s (omega (arith, before, le)) at) is sid
 
+  pub uncancelled-back : (l b : ℕ) (add : Fields) → IsUncancelled f l b add → IsUncancelled e l b add
+  uncancelled-back l b add u i s late before at is sid = u i s late before (grows.sent i s at) is sid
+
+  pub cleared-forth : (l b cid : ℕ) → HasCleared e l b cid → HasCleared f l b cid
+  cleared-forth l b cid c = (c.0, c.1, c.2, c.3, grows.sent c.0 c.1 c.4, c.5, c.6)
+
   frees-forth : (l b : ℕ) (request m : Fields) → l ≤ length e.sent → b ≤ length e.sent → Frees e l b request m → Frees f l b request m
   frees-forth l b request m l_le b_le frees = elim frees [
-    | inl cid ↦ inl cid
+    | inl cid ↦ inl (
+      cid.0,
+      elim cid.1 [
+        | inl fails ↦ inl fails
+        | inr clears ↦ inr (clears.0, clears.1, cleared-forth l b request.p1 clears.2)
+      ],
+    )
     | inr (inl ioid) ↦ inr (inl ioid)
     | inr (inr (inl sub)) ↦ inr (inr (inl (
       sub.0,
       elim sub.1 [
-        | inl confirms ↦ inl confirms
+        | inl confirms ↦ inl (confirms.0, confirms.1, confirms.2, λ u. confirms.3 (uncancelled-back l b request u))
         | inr refuses ↦ inr (refuses.0, uncancelled-forth l b request b_le refuses.1)
       ],
     )))
-    | inr (inr (inr clear)) ↦ inr (inr (inr (clear.0, clear.1, clear.2, channel-forth l clear.0 clear.1 clear.2 (sid_in request) l_le clear.3, clear.4, clear.5)))
+    | inr (inr (inr clear)) ↦ inr (inr (inr (clear.0, clear.1, clear.2, channel-forth l clear.0 clear.1 clear.2 (sid_in request) l_le clear.3, clear.4, clear.5, cleared-forth l b clear.2 clear.6)))
   ]
 
   pub free-forth : (l k q : ℕ) → k ≤ length e.sent → k ≤ q → IsFree e l k → IsFree f l q
@@ -287,8 +300,9 @@ module _ (e : Conduct) (ms : List Fields) (told : IsTold e) where
     | inr new ↦ (let place : i ≡ length e.sent + new.0 = new.1 in none new.0 s (omega (arith, place, before)) (omega (arith, place, late)) new.2 is)
   ]
 
-  pub added-sent : (sid id : ℕ) → ((q : ℕ) (r : Fields) → At ms q r → Is command.EventCancel r → r.p2 ≢ id) → Added e sid id → Added said sid id
-  added-sent sid id none a = (
+  pub added-sent : (sid id : ℕ) → ((q : ℕ) (r : Fields) → At ms q r → Is command.EventCancel r → r.p2 ≢ id)
+      → ((q : ℕ) (r : Fields) → At ms q r → Gives r (SubId id) → ⊥) → Added e sid id → Added said sid id
+  added-sent sid id none last a = (
     a.0,
     a.1,
     grows-sent.sent a.0 a.1 a.2,
@@ -296,12 +310,17 @@ module _ (e : Conduct) (ms : List Fields) (told : IsTold e) where
     a.4,
     a.5,
     uncancelled-sent a.0 (length said.sent) a.1 (let more : length said.sent ≡ length e.sent + length ms = longer in omega (arith, more)) (λ q r lt late at is same. none q r at is (same ∙ a.5)) a.6,
+    λ q r late at gives. elim (At-parts e.sent ms q r at) [
+      | inl old ↦ a.7 q r late old gives
+      | inr new ↦ last new.0 r new.2 gives
+    ],
   )
 
-  -- an EVENT_ADD goes out, and no EVENT_CANCEL after it
+  -- an EVENT_ADD goes out, and no EVENT_CANCEL after it, nor what gives its id
   pub added-now : (q sid : ℕ) (s : Fields) → At ms q s → Is command.EventAdd s → s.p1 ≡ sid
-      → ((p : ℕ) (r : Fields) → q < p → At ms p r → Is command.EventCancel r → ⊥) → Added said sid s.p2
-  added-now q sid s at adds is none = (
+      → ((p : ℕ) (r : Fields) → q < p → At ms p r → Is command.EventCancel r → ⊥)
+      → ((p : ℕ) (r : Fields) → q < p → At ms p r → Gives r (SubId s.p2) → ⊥) → Added said sid s.p2
+  added-now q sid s at adds is none last = (
     length e.sent + q,
     s,
     At-after e.sent ms q s at,
@@ -311,5 +330,9 @@ module _ (e : Conduct) (ms : List Fields) (told : IsTold e) where
     λ i r late before there stops. elim (At-parts e.sent ms i r there) [
       | inl old ↦ absurd (let lt : i < length e.sent = At-within e.sent i r old in omega (arith, lt, late))
       | inr new ↦ absurd (let place : i ≡ length e.sent + new.0 = new.1 in none new.0 r (omega (arith, place, late)) new.2 stops)
+    ],
+    λ i r late there gives. elim (At-parts e.sent ms i r there) [
+      | inl old ↦ (let lt : i < length e.sent = At-within e.sent i r old in omega (arith, lt, late))
+      | inr new ↦ (let place : i ≡ length e.sent + new.0 = new.1 in last new.0 r (omega (arith, place, late)) new.2 gives)
     ],
   )

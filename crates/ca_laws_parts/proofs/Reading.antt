@@ -36,13 +36,13 @@ use Rattle.ca_laws_parts.specs.ClientRows.{sent_on}
 use Rattle.ca_laws_parts.specs.Conduct.{with_all_sent}
 use Rattle.ca_laws_parts.proofs.CallsAsking.{few-thins}
 use Rattle.ca_laws_parts.proofs.Finding.{sound-finds}
-use Rattle.ca_laws_parts.proofs.Backs.{AsksAs, Backs, BacksOn, SubscribesAs, Was, asks-as-same, asks-back, asks-back-freed, back-freed, back-same, back-searched, back-stood, backs-same, sent-tables, subscribes-as-same, subscribes-on}
+use Rattle.ca_laws_parts.proofs.Backs.{AsksAs, Backs, BacksOn, SubscribesAs, Was, asks-as-same, asks-back, asks-back-freed, back-freed, back-same, back-searched, back-stood, backs-same, cancels-as-same, cancels-there, sent-tables, subscribes-as-same, subscribes-on}
 use Rattle.ca_laws_parts.proofs.Given.{Given, only-one}
 use Rattle.ca_laws_parts.proofs.Giving.{add-row, given-heard, none-clear}
 use Rattle.ca_laws_parts.proofs.Growing.{HasNow}
-use Rattle.ca_laws_parts.proofs.Rests.{RestsBut, but-then, rests-heard, rests-same}
-use Rattle.ca_laws_parts.proofs.Sound.{Base, GoesOn, HeldAs, IsConnectedAt, Sound, Stands, Turn, is_kept, turned}
-use Rattle.ca_laws_parts.proofs.Turns.{ArePlain, Known, keeps-but, live-linked, none-plain, turn-plain, turn-sending}
+use Rattle.ca_laws_parts.proofs.Rests.{OverAt, RestsBut, but-then, is_over, rests-heard, rests-same}
+use Rattle.ca_laws_parts.proofs.Sound.{Base, GoesOn, HeldAs, HeldThen, IsConnectedAt, Overs, Sound, Stands, Turn, adds-held, is_kept, turned}
+use Rattle.ca_laws_parts.proofs.Turns.{ArePlain, Known, keeps-but, live-linked, none-plain, overs-back, turn-plain, turn-sending}
 
 -- the channel of a CID that is on a circuit is found there
 pub found-by : (x : Client) (c h : Handle) (ch : Channel) (p : Phase) → length x.channels ≤ 65536 → under x.channels h ≡ Some ch → ch.standing ≡ On c p
@@ -100,10 +100,10 @@ module _ (on : Handle) (x : Client) (c : Handle) (m : Fields) (e : Conduct) (hea
   given : Given on x f.core f.sent
   given = given-heard on x c m f heard.base.few hears_it
 
-  stays : AsksAs x.requests f.core.requests → SubscribesAs x.subscriptions f.core.subscriptions → (l : ℕ) (s : Fields) (id : Id) → At e.sent l s → Gives s id
-      → HeldAs on x e l s id → HeldAs on f.core e l s id ⊎ IsFree e l (length e.sent)
-  stays asks subs l s id at gives held =
-      keeps-but on x f.core e c m rests asks (subscribes-on x.subscriptions f.core.subscriptions subs) heard.read l s id at (At-within e.sent l s at) gives held
+  stays : Overs on f.sent x f.core → AsksAs x.requests f.core.requests → SubscribesAs x.subscriptions f.core.subscriptions → (l : ℕ) (s : Fields) (id : Id) → At e.sent l s → Gives s id
+      → HeldAs on x e l s id → HeldThen on f.sent f.core e l s id ⊎ IsFree e l (length e.sent)
+  stays overs asks subs l s id at gives held =
+      keeps-but on x f.core e f.sent overs c m rests asks (subscribes-on x.subscriptions f.core.subscriptions subs) heard.read heard.base.stopped l s id at (At-within e.sent l s at) gives held
 
   opens : IsConnectedAt f.core on → IsConnectedAt x on ⊎ (e.sent ≡ [])
   opens connected = inl (sym (keeps.links on) ∙ connected)
@@ -115,7 +115,7 @@ module _ (on : Handle) (x : Client) (c : Handle) (m : Fields) (e : Conduct) (hea
       let b : Backs on x f.core = subst (λ (w : Effect). Backs on x w.core) (sym is) backs in
       let none : f.sent ≡ [] = ap (λ (w : Effect). w.sent) is ∙ empty in
       turned on x f.core e f.sent heard.base
-      (turn-plain on x f.core e f.sent heard.base known few (keeps.placed heard.base.placed) b opens (stays b.requests b.subscriptions) (subst (λ (l : List Sending). ArePlain l) (sym none) none-plain)) given
+      (turn-plain on x f.core e f.sent heard.base known few (keeps.placed heard.base.placed) b opens (stays (overs-back on x f.core f.sent b.channels) b.requests b.subscriptions) (subst (λ (l : List Sending). ArePlain l) (sym none) none-plain)) given
 
   nothing : Known on x e → (v : Effect) → f ≡ v → v.sent ≡ [] → v.core ≡ x → Then
   nothing known v is empty same = quiet known v is empty (subst (λ (w : Client). Backs on x w) (sym same) (backs-same on x x refl refl refl))
@@ -131,6 +131,7 @@ module _ (on : Handle) (x : Client) (c : Handle) (m : Fields) (e : Conduct) (hea
     channels = subst (λ (u : Table Channel). BacksOn on x.channels u) (sym channels) back;
     requests = asks-as-same x.requests z.requests requests;
     subscriptions = subscribes-as-same x.subscriptions z.subscriptions subscriptions;
+    cancelled = cancels-as-same x.subscriptions z.subscriptions subscriptions;
   }
 
   -- a channel goes from one phase to another, of which as much is known
@@ -176,9 +177,12 @@ module _ (on : Handle) (x : Client) (c : Handle) (m : Fields) (e : Conduct) (hea
     requests =
         asks-back x.requests z.requests
         (λ q v is. (v, (all-freed-back (asks_on h) x.requests q v (subst (λ (t : Table Request). under t q ≡ Some v) requests is)).0, refl));
-    subscriptions = λ g v is.
-        (v, (all-freed-back (λ (s : Subscription). is_to h s && drains_in c s.stage) x.subscriptions g v (subst (λ (t : Table Subscription). under t g ≡ Some v) subscriptions is)).0, refl, λ s. s);
+    subscriptions = λ g v is. (v, was g v is, refl, λ s. s);
+    cancelled = cancels-there x.subscriptions z.subscriptions was;
   }
+    where
+      was : (g : Handle) (v : Subscription) → under z.subscriptions g ≡ Some v → under x.subscriptions g ≡ Some v
+      was g v is = (all-freed-back (λ (s : Subscription). is_to h s && drains_in c s.stage) x.subscriptions g v (subst (λ (t : Table Subscription). under t g ≡ Some v) subscriptions is)).0
 
   read-answered : Known on x e → (o : Option (Handle × Phase)) → f ≡ clear_answered x c o → Then
   read-answered known None is = nothing known (becomes x) is refl refl
@@ -198,6 +202,7 @@ module _ (on : Handle) (x : Client) (c : Handle) (m : Fields) (e : Conduct) (hea
     channels = back-same on x.channels x.channels refl;
     requests = asks-back x.requests (with_freed q x.requests) (asks-back-freed q x.requests);
     subscriptions = subscribes-as-same x.subscriptions x.subscriptions refl;
+    cancelled = cancels-as-same x.subscriptions x.subscriptions refl;
   }
 
   backs-subscription : (g : Handle) → Backs on x (without_subscription g x)
@@ -205,6 +210,7 @@ module _ (on : Handle) (x : Client) (c : Handle) (m : Fields) (e : Conduct) (hea
     channels = back-same on x.channels x.channels refl;
     requests = asks-as-same x.requests x.requests refl;
     subscriptions = λ k v is. (v, (freed-back x.subscriptions k g v is).1, refl, λ s. s);
+    cancelled = cancels-there x.subscriptions (with_freed g x.subscriptions) (λ k v is. (freed-back x.subscriptions k g v is).1);
   }
 
   read-completes : Known on x e → (q : Handle) (s : request.Stage) → Completes x m q s f → Then
@@ -288,7 +294,7 @@ module _ (on : Handle) (x : Client) (c : Handle) (m : Fields) (e : Conduct) (hea
       same-keeps : Keeps x y
       same-keeps = subst (λ (v : Client). Keeps x v) core keeps
 
-      goes-it : c ≡ on → GoesOn y e s.message
+      goes-it : c ≡ on → GoesOn on y e s.message
       goes-it here =
           let r = has here in (
             r.0,
@@ -302,6 +308,12 @@ module _ (on : Handle) (x : Client) (c : Handle) (m : Fields) (e : Conduct) (hea
             ]),
             λ k v is which same. absurd (clear-only sid h 1 which (λ n. omega (arith, n))),
           )
+
+      overs-it : Overs on (s ∷ []) x y
+      overs-it k o = elim (row k o.0 o.2) [
+        | inl own ↦ inr (0, s, refl, on-handle c on q o.1 (sym own.1 ∙ o.3), refl, ap (λ (z : Handle). wire_of z) (sym own.0))
+        | inr old ↦ inl (o.0, o.1, old.1, o.3, o.4)
+      ]
 
       turn : Turn on x y e (s ∷ [])
       turn = record {
@@ -320,17 +332,19 @@ module _ (on : Handle) (x : Client) (c : Handle) (m : Fields) (e : Conduct) (hea
             let was : under x.subscriptions g ≡ Some d = subst (λ (t : Table Subscription). under t g ≡ Some d) subs is in
             inl (elim (row d.channel w on_it) [
               | inl own ↦ absurd (both_ways (is_kept q) none (ap is_kept (on-phase c on q (Live n rights) (sym own.1 ∙ live_it))))
-              | inr old ↦ heard.base.adds g d w n rights was stands old.1 live_it
+              | inr old ↦ adds-held on x e heard.base g d w n rights was stands old.1 live_it
             ]);
         cancelled = λ i r g d at here is row stands same. clear-only sid h 2 (subst (λ (z : Sending). Is command.EventCancel z.message) (only-one s r i at).1 is) (λ n. omega (arith, n));
+        stops = λ g d is stops. inl (d, subst (λ (t : Table Subscription). under t g ≡ Some d) subs is, stops);
         alone = λ i j r v at_r at_v ends. (only-one s r i at_r).0 ∙ sym (only-one s v j at_v).0;
-        goes = λ i r at here is. (let one = (only-one s r i at).1 in subst (λ (z : Sending). GoesOn y e z.message) (sym one) (goes-it (ap (λ (z : Sending). z.circuit) (sym one) ∙ here)));
+        goes = λ i r at here is. (let one = (only-one s r i at).1 in subst (λ (z : Sending). GoesOn on y e z.message) (sym one) (goes-it (ap (λ (z : Sending). z.circuit) (sym one) ∙ here)));
+        overs = overs-it;
         cancels = λ i r at here is. absurd (clear-only sid h 2 (subst (λ (z : Sending). Is command.EventCancel z.message) (only-one s r i at).1 is) (λ n. omega (arith, n)));
         opens = λ connected. inl (sym (same-keeps.links on) ∙ connected);
         linked = λ i r id at here gives. absurd (none-clear c sid h i r id at gives);
         keeps = λ l w id at gives held.
-            keeps-but on x y e c m (subst (λ (v : Client). RestsBut on c m x v) core rests) asks
-            (subscribes-on x.subscriptions y.subscriptions (subscribes-as-same x.subscriptions y.subscriptions subs)) heard.read l w id at (At-within e.sent l w at) gives held;
+            keeps-but on x y e (s ∷ []) overs-it c m (subst (λ (v : Client). RestsBut on c m x v) core rests) asks
+            (subscribes-on x.subscriptions y.subscriptions (subscribes-as-same x.subscriptions y.subscriptions subs)) heard.read heard.base.stopped l w id at (At-within e.sent l w at) gives held;
       }
 
   -- a channel that its caller cleared while it was being created
@@ -415,7 +429,17 @@ module _ (on : Handle) (x : Client) (c : Handle) (m : Fields) (e : Conduct) (hea
     on-native : (d : Handle) (n k : Native) (r t : ℕ) → On d (Live n r) ≡ On on (Live k t) → n ≡ k
     on-native d n k r t is = cc
 
-    goes-add : (i : ℕ) (s : Sending) → At adds i s → s.circuit ≡ on → GoesOn z-live e s.message
+    -- a channel that is over was so
+    over-old : (k : Handle) → OverAt on z-live.channels k → (k ≡ h → ⊥) × OverAt on x.channels k
+    over-old k o = elim (row-live k o.0 o.2) [
+      | inr old ↦ (old.0, (o.0, o.1, old.1, o.3, o.4))
+      | inl own ↦ absurd (both_ways false refl (ap is_over (on-phase c on (Live (native_in m) rights) o.1 (sym own.1 ∙ o.3)) ∙ o.4))
+    ]
+
+    overs-live : Overs on adds x z-live
+    overs-live k o = inl (over-old k o).1
+
+    goes-add : (i : ℕ) (s : Sending) → At adds i s → s.circuit ≡ on → GoesOn on z-live e s.message
     goes-add i s at here =
         let r = new-row i s at in
         let c_on : c ≡ on = ap (λ (v : Sending). v.circuit) (sym r.2) ∙ here in
@@ -432,7 +456,7 @@ module _ (on : Handle) (x : Client) (c : Handle) (m : Fields) (e : Conduct) (hea
           λ g d row which same.
               (let one : g ≡ r.0.0 = one-by-wire x.subscriptions g r.0.0 d r.0.1 heard.base.few.subscriptions row r.3 (sym same ∙ ap (λ (v : Sending). (v.message).p2) r.2) in
               let also : d ≡ r.0.1 = one-value x.subscriptions r.0.0 d r.0.1 (subst (λ (k : Handle). under x.subscriptions k ≡ Some d) one row) r.3 in
-              ap (λ (v : Subscription). wire_of v.channel) also ∙ ap (λ (k : Handle). wire_of k) r.4),
+              (ap (λ (v : Subscription). wire_of v.channel) also ∙ ap (λ (k : Handle). wire_of k) r.4, λ o. (over-old d.channel o).0 (ap (λ (v : Subscription). v.channel) also ∙ r.4))),
         )
 
     keeps-live : f ≡ created x c m (Some (h, Creating rights)) → Keeps x y-live
@@ -461,26 +485,28 @@ module _ (on : Handle) (x : Client) (c : Handle) (m : Fields) (e : Conduct) (hea
           ];
           cleared = λ i s g w p at here clears row it same. absurd (add-only i s 12 at clears (λ n. omega (arith, n)));
           adds = λ g d w n r row it on_it live_it. elim (row-live d.channel w on_it) [
-            | inr old ↦ inl (heard.base.adds g d w n r row it old.1 live_it)
+            | inr old ↦ inl (adds-held on x e heard.base g d w n r row it old.1 live_it)
             | inl own ↦
                 let a = added-there g d row it own.0 in
                 let c_on : c ≡ on = on-handle c on (Live (native_in m) rights) (Live n r) (sym own.1 ∙ live_it) in
                 inr (a.0, event_add_sent c m.p2 g d, a.1, c_on, refl, ap (λ (v : Native). v.sid) (on-native c (native_in m) n rights r (sym own.1 ∙ live_it)), refl)
           ];
           cancelled = λ i s g d at here stops row it same. add-only i s 2 at stops (λ n. omega (arith, n));
+          stops = λ g d row stops. inl (d, row, stops);
           alone = λ i j s r at_s at_r ends. absurd (elim ends [
             | inl clears ↦ add-only i s 12 at_s clears (λ n. omega (arith, n))
             | inr stops ↦ add-only i s 2 at_s stops (λ n. omega (arith, n))
           ]);
           goes = λ i s at here which. goes-add i s at here;
+          overs = overs-live;
           cancels = λ i s at here stops. absurd (add-only i s 2 at stops (λ n. omega (arith, n)));
           opens = λ connected. inl (sym (k.links on) ∙ ((keeps-sending adds z-live).links on) ∙ connected);
           linked = λ i s id at here gives.
               (let c_on : c ≡ on = ap (λ (v : Sending). v.circuit) (sym (new-row i s at).2) ∙ here in
               inl (live-linked on x h ch (Creating rights) heard.base.placed there (stands ∙ ap (λ (o : Handle). On o (Creating rights)) c_on) refl));
           keeps = λ l s id at gives held_it.
-              keeps-but on x z-live e c m (back-rests (subst (λ (v : Effect). RestsBut on c m x v.core) is rests)) (asks-as-same x.requests x.requests refl)
-              (subscribes-on x.subscriptions x.subscriptions (subscribes-as-same x.subscriptions x.subscriptions refl)) heard.read l s id at (At-within e.sent l s at) gives held_it;
+              keeps-but on x z-live e adds overs-live c m (back-rests (subst (λ (v : Effect). RestsBut on c m x v.core) is rests)) (asks-as-same x.requests x.requests refl)
+              (subscribes-on x.subscriptions x.subscriptions (subscribes-as-same x.subscriptions x.subscriptions refl)) heard.read heard.base.stopped l s id at (At-within e.sent l s at) gives held_it;
         }
       where
         t : ((y-live).channels ≡ z-live.channels) × ((y-live).requests ≡ z-live.requests) × ((y-live).subscriptions ≡ z-live.subscriptions)

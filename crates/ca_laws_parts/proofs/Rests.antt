@@ -45,31 +45,50 @@ pub record Rests (on : Handle) (x y : Client) : Type 0 where
   pub subscriptions : (g : Handle) (d : Subscription) → under x.subscriptions g ≡ Some d → has_id x.channels on d ≡ true
       → (e : Subscription) × (under y.subscriptions g ≡ Some e) × (has_id y.channels on e ≡ true)
 
--- The message that was read on circuit c frees the CID of this handle, the IOID of this request,
--- the id of this subscription.
-abbrev pub FreesCid : Fields → Handle → Type 0
-FreesCid m h = (Is command.CreateChannelFail m × (m.p1 ≡ wire_of h)) ⊎ (Is command.ClearChannel m × (m.p2 ≡ wire_of h))
+-- its CLEAR_CHANNEL went out
+abbrev pub is_over : Phase → Bool
+is_over Leaving = true
+is_over Clearing = true
+is_over p = false
 
-abbrev pub FreesIoid : Fields → Handle → Request → Type 0
-FreesIoid m q r =
+-- The CLEAR_CHANNEL of this channel went out on the circuit, and is not answered.
+abbrev pub OverAt : (on : Handle) → Table Channel → Handle → Type 0
+OverAt on t h = (ch : Channel) × (p : Phase) × (under t h ≡ Some ch) × (ch.standing ≡ On on p) × (is_over p ≡ true)
+
+-- The message that was read on the circuit frees the CID of this handle, the IOID of this request,
+-- the id of this subscription; a confirmation only of one that was cancelled, and the reply to a
+-- clear only what is on a channel that was cleared.
+abbrev pub FreesCid : (on : Handle) → Client → Fields → Handle → Type 0
+FreesCid on x m h = (Is command.CreateChannelFail m × (m.p1 ≡ wire_of h)) ⊎ (Is command.ClearChannel m × (m.p2 ≡ wire_of h) × OverAt on x.channels h)
+
+abbrev pub FreesIoid : (on : Handle) → Client → Fields → Handle → Request → Type 0
+FreesIoid on x m q r =
     ((m.command ≡ command_number (command_of r.asked)) × (m.p2 ≡ wire_of q))
     ⊎ ((Is command.Error m × ((h : Header) × QuotesHeader m h × (h.command ≡ command_number (command_of r.asked)) × (h.p2 ≡ wire_of q)))
-    ⊎ (Is command.ClearChannel m × (m.p2 ≡ wire_of r.channel)))
+    ⊎ (Is command.ClearChannel m × (m.p2 ≡ wire_of r.channel) × OverAt on x.channels r.channel))
 
-abbrev pub FreesSub : Fields → Handle → Subscription → Type 0
-FreesSub m g d =
-    (Is command.EventAdd m × (m.payload ≡ []) × (m.p2 ≡ wire_of g))
+abbrev pub FreesSub : (on : Handle) → Client → Fields → Handle → Subscription → Type 0
+FreesSub on x m g d =
+    (Is command.EventAdd m × (m.payload ≡ []) × (m.p2 ≡ wire_of g) × ((o : Handle) × (d.stage ≡ monitor.Cancelled o)))
     ⊎ ((Is command.Error m × ((h : Header) × QuotesHeader m h × (h.command ≡ command_number command.EventAdd) × (h.p2 ≡ wire_of g)) × (stands_in d.stage ≡ true))
-    ⊎ (Is command.ClearChannel m × (m.p2 ≡ wire_of d.channel)))
+    ⊎ (Is command.ClearChannel m × (m.p2 ≡ wire_of d.channel) × OverAt on x.channels d.channel))
 
 -- So it is held on, or it was held on the circuit on which this was read, and that frees it.
 pub record RestsBut (on c : Handle) (m : Fields) (x y : Client) : Type 0 where
   pub channels : (h : Handle) (v : Channel) → under x.channels h ≡ Some v → is_on_in is_asked on v ≡ true
-      → ((w : Channel) × (under y.channels h ≡ Some w) × (is_on_in is_asked on w ≡ true)) ⊎ ((c ≡ on) × FreesCid m h)
+      → ((w : Channel) × (under y.channels h ≡ Some w) × (is_on_in is_asked on w ≡ true)) ⊎ ((c ≡ on) × FreesCid on x m h)
   pub requests : (q : Handle) (r : Request) → under x.requests q ≡ Some r → was_sent_on on r ≡ true
-      → ((u : Request) × (under y.requests q ≡ Some u) × (was_sent_on on u ≡ true) × (u.asked ≡ r.asked)) ⊎ ((c ≡ on) × FreesIoid m q r)
+      → ((u : Request) × (under y.requests q ≡ Some u) × (was_sent_on on u ≡ true) × (u.asked ≡ r.asked)) ⊎ ((c ≡ on) × FreesIoid on x m q r)
   pub subscriptions : (g : Handle) (d : Subscription) → under x.subscriptions g ≡ Some d → has_id x.channels on d ≡ true
-      → ((e : Subscription) × (under y.subscriptions g ≡ Some e) × (has_id y.channels on e ≡ true)) ⊎ ((c ≡ on) × FreesSub m g d)
+      → ((e : Subscription) × (under y.subscriptions g ≡ Some e) × (has_id y.channels on e ≡ true)) ⊎ ((c ≡ on) × FreesSub on x m g d)
+
+-- a subscription that was cancelled and has its id on a circuit is cancelled there
+pub held-cancelled : (t : Table Channel) (on o : Handle) (d : Subscription) → d.stage ≡ monitor.Cancelled o → has_id t on d ≡ true → is_cancelled_in on d.stage ≡ true
+held-cancelled t on o d is has =
+    elim (or_cases (same_handle o on) false (subst (λ (s : Stage). (drains_in on s || (stands_in s && unwrap_or (option_map (is_on_in is_subscribed on) (under t d.channel)) false)) ≡ true) is has)) [
+      | inl drains ↦ subst (λ (s : Stage). is_cancelled_in on s ≡ true) (sym is) drains
+      | inr none ↦ absurd (both_ways false refl none)
+    ]
 
 pub rests-then : (on : Handle) (x y z : Client) → Rests on x y → Rests on y z → Rests on x z
 rests-then on x y z a b = record {
@@ -235,15 +254,16 @@ module _ (on : Handle) (x : Client) (e : Effect) (c : Handle) (m : Fields) where
       (rests-stood on y h (On c Leaving) f.0 f.1 (same-phase is_asked on c f.0 (Live native rights) Leaving f.3 refl) (same-phase is_subscribed on c f.0 (Live native rights) Leaving f.3 refl)))
 
   -- a channel that was on this circuit is on it no more
-  module _ (h : Handle) (p : Phase) (ch : Channel) (there : under x.channels h ≡ Some ch) (stands : ch.standing ≡ On c p) (frees : FreesCid m h) where
+  module _ (h : Handle) (p : Phase) (ch : Channel) (there : under x.channels h ≡ Some ch) (stands : ch.standing ≡ On c p) (frees : c ≡ on → FreesCid on x m h) where
     gone-row : (u : Table Channel) → ((k : Handle) (w : Channel) → under x.channels k ≡ Some w → (k ≡ h → ⊥) → under u k ≡ Some w)
         → (k : Handle) (v : Channel) → under x.channels k ≡ Some v → is_on_in is_asked on v ≡ true
-        → ((w : Channel) × (under u k ≡ Some w) × (is_on_in is_asked on w ≡ true)) ⊎ ((c ≡ on) × FreesCid m k)
+        → ((w : Channel) × (under u k ≡ Some w) × (is_on_in is_asked on w ≡ true)) ⊎ ((c ≡ on) × FreesCid on x m k)
     gone-row u keeps k v is pass = elim (handle-or k h) [
       | inr other ↦ inl (v, keeps k v is other, pass)
       | inl same ↦
           let one : v ≡ ch = one-value x.channels h v ch (subst (λ (g : Handle). under x.channels g ≡ Some v) same is) there in
-          inr (stands-there is_asked on c ch p stands (subst (λ (z : Channel). is_on_in is_asked on z ≡ true) one pass), subst (λ (g : Handle). FreesCid m g) (sym same) frees)
+          let here : c ≡ on = stands-there is_asked on c ch p stands (subst (λ (z : Channel). is_on_in is_asked on z ≡ true) one pass) in
+          inr (here, subst (λ (g : Handle). FreesCid on x m g) (sym same) (frees here))
     ]
 
     other-row : (u : Table Channel) → ((k : Handle) (w : Channel) → under x.channels k ≡ Some w → (k ≡ h → ⊥) → under u k ≡ Some w)
@@ -261,7 +281,7 @@ module _ (on : Handle) (x : Client) (e : Effect) (c : Handle) (m : Fields) where
     gone-header_only header_only u keeps z channels requests subscriptions =
         let none : is_on_in is_subscribed on ch ≡ false = fails-anywhere is_subscribed on c ch p stands header_only in
         record {
-          channels = λ k v is pass. subst (λ (t : Table Channel). ((w : Channel) × (under t k ≡ Some w) × (is_on_in is_asked on w ≡ true)) ⊎ ((c ≡ on) × FreesCid m k)) (sym channels) (gone-row u keeps k v is pass);
+          channels = λ k v is pass. subst (λ (t : Table Channel). ((w : Channel) × (under t k ≡ Some w) × (is_on_in is_asked on w ≡ true)) ⊎ ((c ≡ on) × FreesCid on x m k)) (sym channels) (gone-row u keeps k v is pass);
           requests = λ q r is pass. inl (asks-same on x.requests z.requests requests q r is pass);
           subscriptions = λ g d is pass.
               inl (
@@ -280,11 +300,11 @@ module _ (on : Handle) (x : Client) (e : Effect) (c : Handle) (m : Fields) where
   rests-failed fails (Some (h, Creating rights)) at is =
       let f = channel-on x c m.p1 h (Creating rights) at in
       frees-so [] (searched_again x h) is
-      (gone-header_only h (Creating rights) f.0 f.1 f.3 (inl (fails, sym f.2)) refl (with_standing Searching h x).channels (λ k w there other. changed-other (λ (v : Channel). record v { standing = Searching }) x.channels k h w there other) (searched_again x h) refl refl refl)
+      (gone-header_only h (Creating rights) f.0 f.1 f.3 (λ here. inl (fails, sym f.2)) refl (with_standing Searching h x).channels (λ k w there other. changed-other (λ (v : Channel). record v { standing = Searching }) x.channels k h w there other) (searched_again x h) refl refl refl)
   rests-failed fails (Some (h, Doomed)) at is =
       let f = channel-on x c m.p1 h Doomed at in
       frees-so [] (without_channel x h) is
-      (gone-header_only h Doomed f.0 f.1 f.3 (inl (fails, sym f.2)) refl (with_freed h x.channels) (λ k w there other. freed-other x.channels k h w there other) (without_channel x h) refl refl refl)
+      (gone-header_only h Doomed f.0 f.1 f.3 (λ here. inl (fails, sym f.2)) refl (with_freed h x.channels) (λ k w there other. freed-other x.channels k h w there other) (without_channel x h) refl refl refl)
 
   -- what was live on a circuit is there
   was-there : (h : Handle) (p : Phase) (ch : Channel) → under x.channels h ≡ Some ch → ch.standing ≡ On c p → (g o : Handle) (v : Channel)
@@ -294,21 +314,25 @@ module _ (on : Handle) (x : Client) (e : Effect) (c : Handle) (m : Fields) where
       stands-there was_live o c ch p stands (subst (λ (z : Channel). is_on_in was_live o z ≡ true) one pass)
 
   -- a channel is cleared, with all ids that were on it there
-  module _ (attached : Attached x) (h : Handle) (p : Phase) (ch : Channel) (there : under x.channels h ≡ Some ch) (stands : ch.standing ≡ On c p) (clears : Is command.ClearChannel m) (cid : m.p2 ≡ wire_of h) where
+  module _ (attached : Attached x) (h : Handle) (p : Phase) (ch : Channel) (there : under x.channels h ≡ Some ch) (stands : ch.standing ≡ On c p) (clears : Is command.ClearChannel m) (cid : m.p2 ≡ wire_of h) (over : is_over p ≡ true) where
+    over-on : c ≡ on → (k : Handle) → k ≡ h → OverAt on x.channels k
+    over-on here k same = subst (λ (z : Handle × Handle). OverAt z.0 x.channels z.1) (λ i. (here i, sym same i)) (ch, p, there, stands, over)
+
     drained-requests : (q : Handle) (r : Request) → under x.requests q ≡ Some r → was_sent_on on r ≡ true
-        → ((u : Request) × (under (request.channel_gone h x.requests) q ≡ Some u) × (was_sent_on on u ≡ true) × (u.asked ≡ r.asked)) ⊎ ((c ≡ on) × FreesIoid m q r)
+        → ((u : Request) × (under (request.channel_gone h x.requests) q ≡ Some u) × (was_sent_on on u ≡ true) × (u.asked ≡ r.asked)) ⊎ ((c ≡ on) × FreesIoid on x m q r)
     drained-requests q r is pass = elim (cases_Bool (asks_on h r)) [
       | inr other ↦ inl (r, all-freed-there (asks_on h) x.requests q r is other, pass, refl)
       | inl asks ↦
           let to : r.channel ≡ h = same-is r.channel h asks in
           let was = attached.requests q r is in
           let here : c ≡ r.circuit = was-there h p ch there stands r.channel r.circuit was.0 was.1 to was.2 in
-          inr (here ∙ same-is r.circuit on pass, inr (inr (clears, cid ∙ ap (λ (k : Handle). wire_of k) (sym to))))
+          let now : c ≡ on = here ∙ same-is r.circuit on pass in
+          inr (now, inr (inr (clears, cid ∙ ap (λ (k : Handle). wire_of k) (sym to), over-on now r.channel to)))
     ]
 
     drained-subscriptions : (u : Table Channel) → ((k : Handle) (w : Channel) → under x.channels k ≡ Some w → (k ≡ h → ⊥) → under u k ≡ Some w)
         → (g : Handle) (d : Subscription) → under x.subscriptions g ≡ Some d → has_id x.channels on d ≡ true
-        → ((v : Subscription) × (under (monitor.channel_drained c h x.subscriptions) g ≡ Some v) × (has_id u on v ≡ true)) ⊎ ((c ≡ on) × FreesSub m g d)
+        → ((v : Subscription) × (under (monitor.channel_drained c h x.subscriptions) g ≡ Some v) × (has_id u on v ≡ true)) ⊎ ((c ≡ on) × FreesSub on x m g d)
     drained-subscriptions u keeps g d is pass = elim (cases_Bool (is_to h d)) [
       | inr other ↦
           let differs : d.channel ≡ h → ⊥ = not-same d.channel h other in
@@ -326,16 +350,16 @@ module _ (on : Handle) (x : Client) (e : Effect) (c : Handle) (m : Fields) where
                 stands-there is_subscribed on c ch p stands
                 (sym (ap (λ (o : Option Channel). unwrap_or (option_map (is_on_in is_subscribed on) o) false) (ap (λ (k : Handle). under x.channels k) same ∙ there)) ∙ parts.1)
           ] in
-          inr (here, inr (inr (clears, cid ∙ ap (λ (k : Handle). wire_of k) (sym same))))
+          inr (here, inr (inr (clears, cid ∙ ap (λ (k : Handle). wire_of k) (sym same), over-on here d.channel same)))
     ]
 
     gone-cleared : (u : Table Channel) → ((k : Handle) (w : Channel) → under x.channels k ≡ Some w → (k ≡ h → ⊥) → under u k ≡ Some w) → (z : Client)
         → z.channels ≡ u → z.requests ≡ request.channel_gone h x.requests
         → z.subscriptions ≡ monitor.channel_drained c h x.subscriptions → RestsBut on c m x z
     gone-cleared u keeps z channels requests subscriptions = record {
-      channels = λ k v is pass. subst (λ (t : Table Channel). ((w : Channel) × (under t k ≡ Some w) × (is_on_in is_asked on w ≡ true)) ⊎ ((c ≡ on) × FreesCid m k)) (sym channels) (gone-row h p ch there stands (inr (clears, cid)) u keeps k v is pass);
-      requests = λ q r is pass. subst (λ (t : Table Request). ((v : Request) × (under t q ≡ Some v) × (was_sent_on on v ≡ true) × (v.asked ≡ r.asked)) ⊎ ((c ≡ on) × FreesIoid m q r)) (sym requests) (drained-requests q r is pass);
-      subscriptions = λ g d is pass. subst (λ (t : Table Subscription × Table Channel). ((v : Subscription) × (under t.0 g ≡ Some v) × (has_id t.1 on v ≡ true)) ⊎ ((c ≡ on) × FreesSub m g d)) (λ i. (sym subscriptions i, sym channels i)) (drained-subscriptions u keeps g d is pass);
+      channels = λ k v is pass. subst (λ (t : Table Channel). ((w : Channel) × (under t k ≡ Some w) × (is_on_in is_asked on w ≡ true)) ⊎ ((c ≡ on) × FreesCid on x m k)) (sym channels) (gone-row h p ch there stands (λ here. inr (clears, cid, over-on here h refl)) u keeps k v is pass);
+      requests = λ q r is pass. subst (λ (t : Table Request). ((v : Request) × (under t q ≡ Some v) × (was_sent_on on v ≡ true) × (v.asked ≡ r.asked)) ⊎ ((c ≡ on) × FreesIoid on x m q r)) (sym requests) (drained-requests q r is pass);
+      subscriptions = λ g d is pass. subst (λ (t : Table Subscription × Table Channel). ((v : Subscription) × (under t.0 g ≡ Some v) × (has_id t.1 on v ≡ true)) ⊎ ((c ≡ on) × FreesSub on x m g d)) (λ i. (sym subscriptions i, sym channels i)) (drained-subscriptions u keeps g d is pass);
     }
 
   rests-answered : Attached x → Is command.ClearChannel m → (o : Option (Handle × Phase)) → channel_on x c m.p2 ≡ o → e ≡ clear_answered x c o
@@ -348,15 +372,15 @@ module _ (on : Handle) (x : Client) (e : Effect) (c : Handle) (m : Fields) where
   rests-answered attached clears (Some (h, Clearing)) at is =
       let f = channel-on x c m.p2 h Clearing at in
       let z : Client = without_channel (without_drained c h x) h in
-      frees-so [] z is (gone-cleared attached h Clearing f.0 f.1 f.3 clears (sym f.2) (with_freed h x.channels) (λ k w there other. freed-other x.channels k h w there other) z refl refl refl)
+      frees-so [] z is (gone-cleared attached h Clearing f.0 f.1 f.3 clears (sym f.2) refl (with_freed h x.channels) (λ k w there other. freed-other x.channels k h w there other) z refl refl refl)
   rests-answered attached clears (Some (h, Leaving)) at is =
       let f = channel-on x c m.p2 h Leaving at in
       let z : Client = searched_again (without_drained c h x) h in
       frees-so [] z is
-      (gone-cleared attached h Leaving f.0 f.1 f.3 clears (sym f.2) (with_standing Searching h x).channels (λ k w there other. changed-other (λ (v : Channel). record v { standing = Searching }) x.channels k h w there other) z refl refl refl)
+      (gone-cleared attached h Leaving f.0 f.1 f.3 clears (sym f.2) refl (with_standing Searching h x).channels (λ k w there other. changed-other (λ (v : Channel). record v { standing = Searching }) x.channels k h w there other) z refl refl refl)
 
   -- one request, one subscription is over
-  over-request : (q : Handle) (r : Request) → under x.requests q ≡ Some r → was_sent_on c r ≡ true → FreesIoid m q r
+  over-request : (q : Handle) (r : Request) → under x.requests q ≡ Some r → was_sent_on c r ≡ true → FreesIoid on x m q r
       → RestsBut on c m x (without_request q x)
   over-request q r there sent frees = record {
     channels = λ k v is pass. inl (v, is, pass);
@@ -364,12 +388,12 @@ module _ (on : Handle) (x : Client) (e : Effect) (c : Handle) (m : Fields) where
       | inr other ↦ inl (u, freed-other x.requests k q u is other, pass, refl)
       | inl same ↦
           let one : u ≡ r = one-value x.requests q u r (subst (λ (g : Handle). under x.requests g ≡ Some u) same is) there in
-          inr (sym (same-is r.circuit c sent) ∙ same-is r.circuit on (subst (λ (v : Request). was_sent_on on v ≡ true) one pass), subst (λ (v : Handle × Request). FreesIoid m v.0 v.1) (λ i. (sym same i, sym one i)) frees)
+          inr (sym (same-is r.circuit c sent) ∙ same-is r.circuit on (subst (λ (v : Request). was_sent_on on v ≡ true) one pass), subst (λ (v : Handle × Request). FreesIoid on x m v.0 v.1) (λ i. (sym same i, sym one i)) frees)
     ];
     subscriptions = λ g d is pass. inl (d, is, pass);
   }
 
-  over-subscription : (g : Handle) (d : Subscription) → under x.subscriptions g ≡ Some d → (has_id x.channels on d ≡ true → c ≡ on) → FreesSub m g d
+  over-subscription : (g : Handle) (d : Subscription) → under x.subscriptions g ≡ Some d → (has_id x.channels on d ≡ true → c ≡ on) → FreesSub on x m g d
       → RestsBut on c m x (without_subscription g x)
   over-subscription g d there here frees = record {
     channels = λ k v is pass. inl (v, is, pass);
@@ -378,11 +402,11 @@ module _ (on : Handle) (x : Client) (e : Effect) (c : Handle) (m : Fields) where
       | inr other ↦ inl (v, freed-other x.subscriptions k g v is other, pass)
       | inl same ↦
           let one : v ≡ d = one-value x.subscriptions g v d (subst (λ (h : Handle). under x.subscriptions h ≡ Some v) same is) there in
-          inr (here (subst (λ (z : Subscription). has_id x.channels on z ≡ true) one pass), subst (λ (z : Handle × Subscription). FreesSub m z.0 z.1) (λ i. (sym same i, sym one i)) frees)
+          inr (here (subst (λ (z : Subscription). has_id x.channels on z ≡ true) one pass), subst (λ (z : Handle × Subscription). FreesSub on x m z.0 z.1) (λ i. (sym same i, sym one i)) frees)
     ];
   }
 
-  rests-completes : (q : Handle) (r : Request) → under x.requests q ≡ Some r → was_sent_on c r ≡ true → FreesIoid m q r → (s : request.Stage)
+  rests-completes : (q : Handle) (r : Request) → under x.requests q ≡ Some r → was_sent_on c r ≡ true → FreesIoid on x m q r → (s : request.Stage)
       → Completes x m q s e → RestsBut on c m x e.core
   rests-completes q r there sent frees request.Open done = frees-so _ (without_request q x) done.2 (over-request q r there sent frees)
   rests-completes q r there sent frees request.Draining done = frees-so [] (without_request q x) done (over-request q r there sent frees)
@@ -396,8 +420,13 @@ module _ (on : Handle) (x : Client) (e : Effect) (c : Handle) (m : Fields) where
   rests-confirmed adds empty None at is = nothing [] is
   rests-confirmed adds empty (Some g) at is =
       let f = confirmed-is c m.p2 x.subscriptions g at in
-      frees-so [] (without_subscription g x) is (over-subscription g f.0 f.1 (here f.0 f.3) (inl (adds, empty, sym f.2)))
+      frees-so [] (without_subscription g x) is (over-subscription g f.0 f.1 (here f.0 f.3) (inl (adds, empty, sym f.2, cancelled-is (f.0).stage f.3)))
     where
+      cancelled-is : (s : Stage) → is_cancelled_in c s ≡ true → (o : Handle) × (s ≡ monitor.Cancelled o)
+      cancelled-is Stands f = absurd (both_ways false refl f)
+      cancelled-is (monitor.Cancelled o) f = (o, refl)
+      cancelled-is (monitor.Ended o) f = absurd (both_ways false refl f)
+
       here : (d : Subscription) → is_cancelled_in c d.stage ≡ true → has_id x.channels on d ≡ true → c ≡ on
       here d cancelled pass = go d.stage cancelled pass
         where

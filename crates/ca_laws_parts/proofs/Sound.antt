@@ -1,29 +1,33 @@
 -- What a client's core holds of one circuit, by what it sent and read there alone,
 -- and how that stays so.
-use Rattle.std.proofs.Common.{◌≡◌, ◌≢◌, ℕ, ◌+◌, ◌<◌, ◌⊎◌, inl, inr, Bool, true, false, List, [], length, Some, refl, sym, ap, ◌∙◌, subst, arith}
-use Rattle.std.specs.Prelude.{filter, is_none}
-use Rattle.std.proofs.lemmas.Bool.{both_ways}
+use Rattle.std.proofs.Common.{◌≡◌, ◌≢◌, ℕ, ◌+◌, ◌<◌, ◌⊎◌, inl, inr, Bool, true, false, ◌&&◌, ◌||◌, List, [], length, Option, Some, refl, sym, ap, ◌∙◌, subst, arith}
+use Rattle.std.specs.Prelude.{filter, is_none, option_map, unwrap_or}
+use Rattle.std.proofs.lemmas.Bool.{and_from, both_ways, or_left, or_right}
 use Rattle.ca_text.specs.Command.{command_number}
 use Rattle.ca_text.specs.declared.command.Command.TheVariants as command
 use Rattle.ca_text.specs.Place.{At}
-use Rattle.ca_text.proofs.Places.{At-map, At-mapped, At-parts, At-within}
+use Rattle.ca_text.proofs.Places.{At-after, At-map, At-mapped, At-one, At-parts, At-within}
 use Rattle.ca_arena.specs.declared.handle.Handle.{Handle}
-use Rattle.ca_ids.specs.Table.{same_handle, under}
+use Rattle.ca_ids.specs.Table.{Table, same_handle, under}
 use Rattle.ca_ids.specs.Wire.{wire_of}
-use Rattle.ca_monitor.specs.Subscriptions.{Subscription, stands_in}
+use Rattle.ca_monitor.specs.Subscriptions.{Stage, Subscription, drains_in, is_cancelled_in, stands_in}
+use Rattle.ca_monitor.specs.Subscriptions as monitor
 use Rattle.ca_requests.specs.Requests.{Request, command_of, was_sent_on}
 use Rattle.ca_wire.specs.Fields.{Fields}
 use Rattle.ca_model.specs.Answers.{Sending}
-use Rattle.ca_model.specs.Client.{Channel, Clearing, Client, Connecting, Creating, Doomed, Leaving, Live, Native, On, Phase, connection_at}
-use Rattle.ca_model.specs.Sends.{Conduct, HasChannel, IsFree, IsOnChannel, IsUncancelled, LegalClient}
+use Rattle.ca_model.specs.Client.{Channel, Clearing, Client, Connecting, Creating, Doomed, Leaving, Live, Native, On, Phase, connection_at, is_on_in}
+use Rattle.ca_model.specs.Sends.{Conduct, HasChannel, HasCleared, IsFree, IsOnChannel, IsUncancelled, LegalClient}
 use Rattle.ca_model.specs.Speech.{Cid, Gives, Id, Ioid, Is, SubId, sid_in}
 use Rattle.ca_model.specs.Placed.{IsPlaced}
 use Rattle.ca_model.proofs.Handles.{same-is, same-itself}
-use Rattle.ca_laws_parts.specs.Held.{AreFew, has_id}
+use Rattle.ca_model.proofs.Standings.{is-on}
+use Rattle.ca_model.proofs.Thinner.{three-ways}
+use Rattle.ca_laws_parts.specs.Held.{AreFew, IsHeld, has_id, is_asked, is_subscribed}
 use Rattle.ca_laws_parts.proofs.Marks.{at-filter, filter-at}
 use Rattle.ca_laws_parts.specs.ClientRows.{sent_on}
 use Rattle.ca_laws_parts.specs.Conduct.{with_all_sent}
 use Rattle.ca_laws_parts.proofs.Filtered.{filter-order}
+use Rattle.ca_laws_parts.proofs.Rests.{OverAt, is_over}
 use Rattle.ca_laws_parts.proofs.Given.{Given, HeldBy}
 use Rattle.ca_laws_parts.proofs.Growing.{Added, Asked, Grows, HasNow, IsTold, NoneCleared, StaysConnected, Went, added-now, added-sent, asked-now, asked-sent, channel-later, connected-later, free-forth, grows-sent, has-sent, longer, on-channel-forth, told-sent, uncancelled-forth, uncancelled-sent, went-forth}
 
@@ -34,16 +38,42 @@ Stands e cid Doomed = (i : ℕ) × Asked e i cid
 Stands e cid (Live n rights) = (i j : ℕ) × HasNow e i j cid n.sid
 Stands e cid p = Unit {0}
 
+-- A CLEAR_CHANNEL of this CID goes out now.
+abbrev pub ClearsNow : (on : Handle) → List Sending → (cid : ℕ) → Type 0
+ClearsNow on sent cid =
+    (i : ℕ) × (s : Sending) × At sent i s × (s.circuit ≡ on) × Is command.ClearChannel s.message × (s.message.p2 ≡ cid)
+
+-- A channel whose clear is not answered was so before, or is cleared now.
+abbrev pub Overs : (on : Handle) → List Sending → Client → Client → Type 0
+Overs on sent x y = (h : Handle) → OverAt on y.channels h → OverAt on x.channels h ⊎ ClearsNow on sent (wire_of h)
+
 -- An id that message s at place l gave is held: by a request or a subscription on the channel on
--- which the message went out; and no EVENT_CANCEL went out for one that stands.
-abbrev pub HeldAs : (on : Handle) → Client → Conduct → (l : ℕ) → Fields → Id → Type 0
-HeldAs on x e l s (Cid n) = HeldBy on x s (Cid n)
-HeldAs on x e l s (Ioid n) =
+-- which the message went out; no EVENT_CANCEL went out for one that stands; and of a channel that
+-- is over this is so.
+abbrev pub HeldWith : (Over : ℕ → Type 0) → (on : Handle) → Client → Conduct → (l : ℕ) → Fields → Id → Type 0
+HeldWith Over on x e l s (Cid n) =
+    (h : Handle) × (v : Channel) × (under x.channels h ≡ Some v) × (wire_of h ≡ n) × (is_on_in is_asked on v ≡ true)
+    × (OverAt on x.channels h → Over (wire_of h))
+HeldWith Over on x e l s (Ioid n) =
     (q : Handle) × (r : Request) × (under x.requests q ≡ Some r) × (wire_of q ≡ n) × (was_sent_on on r ≡ true)
-    × (s.command ≡ command_number (command_of r.asked)) × Went e l (wire_of r.channel) s
-HeldAs on x e l s (SubId n) =
+    × (s.command ≡ command_number (command_of r.asked)) × Went e l (wire_of r.channel) s × (OverAt on x.channels r.channel → Over (wire_of r.channel))
+HeldWith Over on x e l s (SubId n) =
     (g : Handle) × (d : Subscription) × (under x.subscriptions g ≡ Some d) × (wire_of g ≡ n) × (has_id x.channels on d ≡ true)
     × Went e l (wire_of d.channel) s × (stands_in d.stage ≡ true → IsUncancelled e l (length e.sent) s)
+    × (OverAt on x.channels d.channel → Over (wire_of d.channel))
+
+-- Its CLEAR_CHANNEL went out after the message; or goes out now.
+abbrev pub HeldAs : (on : Handle) → Client → Conduct → (l : ℕ) → Fields → Id → Type 0
+HeldAs on x e l s id = HeldWith (λ (cid : ℕ). HasCleared e l (length e.sent) cid) on x e l s id
+
+abbrev pub HeldThen : (on : Handle) → List Sending → Client → Conduct → (l : ℕ) → Fields → Id → Type 0
+HeldThen on sent x e l s id = HeldWith (λ (cid : ℕ). HasCleared e l (length e.sent) cid ⊎ ClearsNow on sent cid) on x e l s id
+
+-- What gave the id of a subscription that is cancelled there is free, or was cancelled.
+abbrev pub Stopped : (on : Handle) → Client → Conduct → Type 0
+Stopped on x e =
+    (g : Handle) (d : Subscription) (l : ℕ) (s : Fields) → under x.subscriptions g ≡ Some d → is_cancelled_in on d.stage ≡ true
+    → At e.sent l s → Gives s (SubId (wire_of g)) → IsFree e l (length e.sent) ⊎ (IsUncancelled e l (length e.sent) s → ⊥)
 
 -- the circuit is connected
 abbrev pub IsConnectedAt : Client → Handle → Type 0
@@ -56,9 +86,37 @@ pub record Base (on : Handle) (x : Client) (e : Conduct) : Type 0 where
   pub told : IsTold e
   pub adds : (g : Handle) (d : Subscription) (ch : Channel) (n : Native) (rights : ℕ) → under x.subscriptions g ≡ Some d
       → stands_in d.stage ≡ true → under x.channels d.channel ≡ Some ch → ch.standing ≡ On on (Live n rights) → Added e n.sid (wire_of g)
+  pub stopped : Stopped on x e
   pub held : IsConnectedAt x on → (l : ℕ) (s : Fields) (id : Id) → At e.sent l s → Gives s id
       → IsFree e l (length e.sent) ⊎ HeldAs on x e l s id
   pub legal : LegalClient e
+
+-- a subscription that is cancelled on the circuit has its id there
+pub cancelled-held : (t : Table Channel) (on : Handle) (d : Subscription) → is_cancelled_in on d.stage ≡ true → has_id t on d ≡ true
+cancelled-held t on d stops = go d.stage stops
+  where
+    go : (s : Stage) → is_cancelled_in on s ≡ true
+        → (drains_in on s || (stands_in s && unwrap_or (option_map (is_on_in is_subscribed on) (under t d.channel)) false)) ≡ true
+    go monitor.Stands h = absurd (both_ways false refl h)
+    go (monitor.Cancelled o) h = or_left (same_handle o on) (false && unwrap_or (option_map (is_on_in is_subscribed on) (under t d.channel)) false) h
+    go (monitor.Ended o) h = absurd (both_ways false refl h)
+
+-- one that stands on a channel that is live there has it too
+pub live-held : (t : Table Channel) (on : Handle) (d : Subscription) (ch : Channel) (n : Native) (rights : ℕ) → stands_in d.stage ≡ true → under t d.channel ≡ Some ch
+    → ch.standing ≡ On on (Live n rights) → has_id t on d ≡ true
+live-held t on d ch n rights stands there live =
+    or_right (drains_in on d.stage) (stands_in d.stage && unwrap_or (option_map (is_on_in is_subscribed on) (under t d.channel)) false)
+    (and_from (stands_in d.stage) (unwrap_or (option_map (is_on_in is_subscribed on) (under t d.channel)) false) stands
+    (ap (λ (o : Option Channel). unwrap_or (option_map (is_on_in is_subscribed on) o) false) there ∙ is-on is_subscribed on ch (Live n rights) live))
+
+-- The EVENT_ADD of this id went out, and a subscription holds that.
+abbrev pub AddedHeld : (on : Handle) → Client → Conduct → (sid id : ℕ) → Type 0
+AddedHeld on x e sid id = Added e sid id × IsHeld (has_id x.channels on) x.subscriptions id
+
+pub adds-held : (on : Handle) (x : Client) (e : Conduct) → Base on x e → (g : Handle) (d : Subscription) (ch : Channel) (n : Native) (rights : ℕ) → under x.subscriptions g ≡ Some d
+    → stands_in d.stage ≡ true → under x.channels d.channel ≡ Some ch → ch.standing ≡ On on (Live n rights) → AddedHeld on x e n.sid (wire_of g)
+adds-held on x e base g d ch n rights there stands on_it live =
+    (base.adds g d ch n rights there stands on_it live, (g, d, there, refl, live-held x.channels on d ch n rights stands on_it live))
 
 -- And what its channels are.
 pub record Sound (on : Handle) (x : Client) (e : Conduct) : Type 0 where
@@ -69,15 +127,15 @@ pub record Sound (on : Handle) (x : Client) (e : Conduct) : Type 0 where
 -- ---- a call, after what it read
 
 -- A message on a channel goes out on one that the client has; it is that of the request or the
--- subscription whose id the message gives.
-abbrev pub GoesOn : Client → Conduct → Fields → Type 0
-GoesOn y e m =
+-- subscription whose id the message gives, and is not over.
+abbrev pub GoesOn : (on : Handle) → Client → Conduct → Fields → Type 0
+GoesOn on y e m =
     (i j cid : ℕ) × HasChannel e (length e.sent) i j cid (sid_in m)
     × ((Is command.ClearChannel m × (m.p2 ≡ cid)) ⊎ ((Is command.ClearChannel m → ⊥) × StaysConnected e i j cid))
     × ((q : Handle) (r : Request) → under y.requests q ≡ Some r → Is command.ReadNotify m ⊎ Is command.WriteNotify m → m.p2 ≡ wire_of q
-    → wire_of r.channel ≡ cid)
+    → (wire_of r.channel ≡ cid) × (OverAt on y.channels r.channel → ⊥))
     × ((g : Handle) (d : Subscription) → under y.subscriptions g ≡ Some d → Is command.EventAdd m → m.p2 ≡ wire_of g
-    → wire_of d.channel ≡ cid)
+    → (wire_of d.channel ≡ cid) × (OverAt on y.channels d.channel → ⊥))
 
 -- it ends a channel or a subscription
 abbrev pub IsEnding : Fields → Type 0
@@ -102,18 +160,22 @@ pub record Turn (on : Handle) (x y : Client) (e : Conduct) (sent : List Sending)
       → is_kept p ≡ false
   pub adds : (g : Handle) (d : Subscription) (ch : Channel) (n : Native) (rights : ℕ) → under y.subscriptions g ≡ Some d
       → stands_in d.stage ≡ true → under y.channels d.channel ≡ Some ch → ch.standing ≡ On on (Live n rights)
-      → Added e n.sid (wire_of g) ⊎ ((i : ℕ) × (s : Sending) × At sent i s × (s.circuit ≡ on) × Is command.EventAdd s.message
+      → AddedHeld on x e n.sid (wire_of g) ⊎ ((i : ℕ) × (s : Sending) × At sent i s × (s.circuit ≡ on) × Is command.EventAdd s.message
       × (s.message.p1 ≡ n.sid) × (s.message.p2 ≡ wire_of g))
   pub cancelled : (i : ℕ) (s : Sending) (g : Handle) (d : Subscription) → At sent i s → s.circuit ≡ on
       → Is command.EventCancel s.message → under y.subscriptions g ≡ Some d → stands_in d.stage ≡ true → s.message.p2 ≢ wire_of g
+  pub stops : (g : Handle) (d : Subscription) → under y.subscriptions g ≡ Some d → is_cancelled_in on d.stage ≡ true
+      → ((b : Subscription) × (under x.subscriptions g ≡ Some b) × (is_cancelled_in on b.stage ≡ true))
+      ⊎ ((i : ℕ) × (s : Sending) × At sent i s × (s.circuit ≡ on) × Is command.EventCancel s.message × (s.message.p2 ≡ wire_of g))
   pub alone : (i j : ℕ) (s r : Sending) → At sent i s → At sent j r → IsEnding s.message → i ≡ j
-  pub goes : (i : ℕ) (s : Sending) → At sent i s → s.circuit ≡ on → IsOnChannel s.message → GoesOn y e s.message
+  pub goes : (i : ℕ) (s : Sending) → At sent i s → s.circuit ≡ on → IsOnChannel s.message → GoesOn on y e s.message
+  pub overs : Overs on sent x y
   pub cancels : (i : ℕ) (s : Sending) → At sent i s → s.circuit ≡ on → Is command.EventCancel s.message
       → Added e s.message.p1 s.message.p2
   pub opens : IsConnectedAt y on → IsConnectedAt x on ⊎ (e.sent ≡ [])
   pub linked : (i : ℕ) (s : Sending) (id : Id) → At sent i s → s.circuit ≡ on → Gives s.message id → IsConnectedAt x on ⊎ (e.sent ≡ [])
   pub keeps : (l : ℕ) (s : Fields) (id : Id) → At e.sent l s → Gives s id → HeldAs on x e l s id
-      → HeldAs on y e l s id ⊎ IsFree e l (length e.sent)
+      → HeldThen on sent y e l s id ⊎ IsFree e l (length e.sent)
 
 -- what was sent on the circuit is of the call
 pub said-at : (on : Handle) (sent : List Sending) (q : ℕ) (m : Fields) → At (sent_on on sent) q m
@@ -205,12 +267,70 @@ module _ (on : Handle) (x y : Client) (e : Conduct) (sent : List Sending) (base 
     | inl old ↦
         added-sent e ms base.told n.sid (wire_of g) (λ q r at stops same.
         let s = said-at on sent q r at in
-        turn.cancelled s.0 s.1 g d s.2 s.3 (subst (λ (z : Fields). Is command.EventCancel z) s.4 stops) there stands (ap (λ (z : Fields). z.p2) (sym s.4) ∙ same)) old
+        turn.cancelled s.0 s.1 g d s.2 s.3 (subst (λ (z : Fields). Is command.EventCancel z) s.4 stops) there stands (ap (λ (z : Fields). z.p2) (sym s.4) ∙ same))
+        (λ q r at gives.
+        let s = said-at on sent q r at in
+        given.idle s.0 s.1 (SubId (wire_of g)) s.2 s.3 (subst (λ (z : Fields). Gives z (SubId (wire_of g))) s.4 gives) (SubId (wire_of g)) r old.1 refl) old.0
     | inr new ↦
         let q = said-there on sent new.0 new.1 new.2 new.3 in
         subst (λ (k : ℕ). Added after n.sid k) new.6
-        (added-now e ms base.told q.0 n.sid new.1.message q.1 new.4 new.5 (λ p r lt at stops. only q.0 p new.1.message r lt q.1 at (inr (inr stops))))
+        (added-now e ms base.told q.0 n.sid new.1.message q.1 new.4 new.5 (λ p r lt at stops. only q.0 p new.1.message r lt q.1 at (inr (inr stops)))
+        (λ p r lt at gives.
+        let o = said-order on sent q.0 p new.1.message r lt q.1 at in
+        let id : Id = SubId (new.1.message).p2 in
+        given.once o.0 o.1 o.2 o.3 id id o.4 o.5 o.6 o.7 o.8 (subst (λ (z : Fields). Gives z id) o.9 (new.4, refl)) (subst (λ (z : Fields). Gives z id) o.10 gives) refl))
   ]
+
+  -- an ending message is the only one that goes out
+  alone-there : (r : Sending) → IsEnding r.message → (i : ℕ) → At sent i r → r.circuit ≡ on → (p : ℕ) (m : Fields) → At ms p m → m ≡ r.message
+  alone-there r ends i at_r here p m at_m =
+      let q = said-there on sent i r at_r here in
+      elim (three-ways p q.0) [
+        | inl less ↦ absurd (only p q.0 m r.message less at_m q.1 (inr ends))
+        | inr (inr more_it) ↦ absurd (only q.0 p r.message m more_it q.1 at_m (inl ends))
+        | inr (inl one) ↦ At-one ms q.0 m r.message (subst (λ (k : ℕ). At ms k m) one at_m) q.1
+      ]
+
+  -- what is cancelled was so before, or its EVENT_CANCEL goes out now
+  stopped-after : Stopped on y after
+  stopped-after g d l s there cancelled at gives = elim (turn.stops g d there cancelled) [
+    | inl was ↦ elim (At-parts e.sent ms l s at) [
+      | inl old ↦ elim (base.stopped g was.0 l s was.1 was.2 old gives) [
+        | inl free ↦ inl (free-forth e after grows l (length e.sent) (length after.sent) (omega arith) (omega (arith, more)) free)
+        | inr stops ↦ inr (λ u. stops (λ i r late before row is. u i r late (omega (arith, before, more)) (grows.sent i r row) is))
+      ]
+      | inr new ↦
+          let q = said-at on sent new.0 s new.2 in
+          absurd (given.idle q.0 q.1 (SubId (wire_of g)) q.2 q.3 (subst (λ (z : Fields). Gives z (SubId (wire_of g))) q.4 gives) (SubId (wire_of g)) s (g, was.0, was.1, refl, cancelled-held x.channels on was.0 was.2) refl)
+    ]
+    | inr now ↦ elim (At-parts e.sent ms l s at) [
+      | inr new ↦
+          absurd (let same : s ≡ (now.1).message = alone-there now.1 (inr now.4) now.0 now.2 now.3 new.0 s new.2 in
+          let a : s.command ≡ 1 = gives.0 in
+          let b : s.command ≡ 2 = ap (λ (z : Fields). z.command) same ∙ now.4 in
+          omega (arith, a, b))
+      | inl old ↦ stopped-now g now.0 now.1 now.2 now.3 now.4 now.5 l s old gives
+    ]
+  ]
+    where
+      stopped-now : (g : Handle) (i : ℕ) (r : Sending) → At sent i r → r.circuit ≡ on → Is command.EventCancel r.message → r.message.p2 ≡ wire_of g → (l : ℕ) (s : Fields) → At e.sent l s
+          → Gives s (SubId (wire_of g)) → IsFree after l (length after.sent) ⊎ (IsUncancelled after l (length after.sent) s → ⊥)
+      stopped-now g i r at_r here stops id l s at gives =
+          let q = said-there on sent i r at_r here in
+          let a = turn.cancels i r at_r here stops in
+          let place : a.0 < length e.sent = At-within e.sent a.0 a.1 a.2 in
+          let id_is : a.1.p2 ≡ wire_of g = a.5 ∙ id in
+          elim (three-ways l a.0) [
+            | inl less ↦
+                inl (free-forth e after grows l a.0 (length after.sent) (omega (arith, place)) (omega (arith, place, more))
+                (base.legal.ids l a.0 s a.1 (SubId (wire_of g)) (SubId (wire_of g)) less at a.2 gives (a.3, id_is) refl))
+            | inr (inl one) ↦
+                let same : s ≡ a.1 = At-one e.sent a.0 s a.1 (subst (λ (k : ℕ). At e.sent k s) one at) a.2 in
+                let within : q.0 < length ms = At-within ms q.0 r.message q.1 in
+                inr (λ u. u (length e.sent + q.0) r.message (omega (arith, one, place)) (omega (arith, within, more)) (At-after e.sent ms q.0 r.message q.1) stops
+                (sym a.4 ∙ ap (λ (z : Fields). z.p1) (sym same)) (id ∙ sym gives.1))
+            | inr (inr later) ↦ absurd (a.7 l s later at (gives.0, gives.1 ∙ sym id))
+          ]
 
   -- ---- the ids that it gave
 
@@ -226,11 +346,44 @@ module _ (on : Handle) (x y : Client) (e : Conduct) (sent : List Sending) (base 
     | inr new ↦ absurd (let place : i ≡ length e.sent + new.0 = new.1 in only q new.0 m r (omega (arith, place, late)) at new.2 (inr (inr stops)))
   ]
 
-  held-forth : (l : ℕ) (s : Fields) (id : Id) → At e.sent l s → HeldAs on y e l s id → Gives s id → HeldAs on y after l s id
-  held-forth l s (Cid n) at held gives = held
+  -- a CLEAR_CHANNEL went out, or does now
+  cleared-now : (l cid : ℕ) → l < length e.sent → HasCleared e l (length e.sent) cid ⊎ ClearsNow on sent cid → HasCleared after l (length after.sent) cid
+  cleared-now l cid lt which = elim which [
+    | inl old ↦ (let upto : old.0 < length e.sent = old.3 in (old.0, old.1, old.2, omega (arith, upto, more), grows.sent old.0 old.1 old.4, old.5, old.6))
+    | inr now ↦
+        let q = said-there on sent now.0 now.1 now.2 now.3 in
+        let within : q.0 < length ms = At-within ms q.0 (now.1).message q.1 in
+        (length e.sent + q.0, (now.1).message, omega (arith, lt), omega (arith, within, more), At-after e.sent ms q.0 (now.1).message q.1, now.4, now.5)
+  ]
+
+  -- the channel of a CREATE_CHAN that goes out is not over
+  created-stays : (q : ℕ) (m : Fields) (h : Handle) → At ms q m → Gives m (Cid (wire_of h)) → OverAt on y.channels h → ⊥
+  created-stays q m h at gives over = elim (turn.overs h over) [
+    | inl old ↦
+        let s = said-at on sent q m at in
+        given.idle s.0 s.1 (Cid (wire_of h)) s.2 s.3 (subst (λ (z : Fields). Gives z (Cid (wire_of h))) s.4 gives) (Cid (wire_of h)) m
+        (h, old.0, old.2, refl, is-on is_asked on old.0 old.1 old.3 ∙ over-asked old.1 old.4) refl
+    | inr now ↦
+        let same : m ≡ (now.1).message = alone-there now.1 (inl now.4) now.0 now.2 now.3 q m at in
+        let a : m.command ≡ 18 = gives.0 in
+        let b : m.command ≡ 12 = ap (λ (z : Fields). z.command) same ∙ now.4 in
+        omega (arith, a, b)
+  ]
+    where
+      over-asked : (p : Phase) → is_over p ≡ true → is_asked p ≡ true
+      over-asked Leaving is = refl
+      over-asked Clearing is = refl
+      over-asked Connecting is = absurd (both_ways false refl is)
+      over-asked (Creating rights) is = refl
+      over-asked Doomed is = refl
+      over-asked (Live n rights) is = refl
+
+  held-forth : (l : ℕ) (s : Fields) (id : Id) → At e.sent l s → HeldThen on sent y e l s id → Gives s id → HeldAs on y after l s id
+  held-forth l s (Cid n) at held gives =
+      (let lt : l < length e.sent = At-within e.sent l s at in (held.0, held.1, held.2, held.3, held.4, λ over. cleared-now l (wire_of held.0) lt (held.5 over)))
   held-forth l s (Ioid n) at held gives =
       let lt : l < length e.sent = At-within e.sent l s at in
-      (held.0, held.1, held.2, held.3, held.4, held.5, went-forth e after grows l (wire_of held.1.channel) s (omega (arith, lt)) held.6)
+      (held.0, held.1, held.2, held.3, held.4, held.5, went-forth e after grows l (wire_of held.1.channel) s (omega (arith, lt)) held.6, λ over. cleared-now l (wire_of held.1.channel) lt (held.7 over))
   held-forth l s (SubId n) at held gives =
       let lt : l < length e.sent = At-within e.sent l s at in (
         held.0,
@@ -246,21 +399,24 @@ module _ (on : Handle) (x y : Client) (e : Conduct) (sent : List Sending) (base 
             turn.cancelled v.0 v.1 held.0 held.1 v.2 v.3 (subst (λ (z : Fields). Is command.EventCancel z) v.4 stops) held.2 stands
             (ap (λ (z : Fields). z.p2) (sym v.4) ∙ same ∙ gives.1 ∙ sym held.3))
             (held.6 stands),
+        λ over. cleared-now l (wire_of held.1.channel) lt (held.7 over),
       )
 
   held-new : (q : ℕ) (m : Fields) (id : Id) → At ms q m → Gives m id → HeldAs on y after (length e.sent + q) m id
   held-new q m id at gives =
       let s = said-at on sent q m at in
-      go id gives (subst (λ (z : Fields). HeldBy on y z id) (sym s.4) (given.held s.0 s.1 id s.2 s.3 (subst (λ (z : Fields). Gives z id) s.4 gives))) (λ it. subst (λ (z : Fields). GoesOn y e z) (sym s.4) (turn.goes s.0 s.1 s.2 s.3 (subst (λ (z : Fields). IsOnChannel z) s.4 it)))
+      go id gives (subst (λ (z : Fields). HeldBy on y z id) (sym s.4) (given.held s.0 s.1 id s.2 s.3 (subst (λ (z : Fields). Gives z id) s.4 gives))) (λ it. subst (λ (z : Fields). GoesOn on y e z) (sym s.4) (turn.goes s.0 s.1 s.2 s.3 (subst (λ (z : Fields). IsOnChannel z) s.4 it)))
     where
-      go : (id : Id) → Gives m id → HeldBy on y m id → (IsOnChannel m → GoesOn y e m) → HeldAs on y after (length e.sent + q) m id
-      go (Cid n) gives held goes = held
+      go : (id : Id) → Gives m id → HeldBy on y m id → (IsOnChannel m → GoesOn on y e m) → HeldAs on y after (length e.sent + q) m id
+      go (Cid n) gives held goes =
+          (held.0, held.1, held.2, held.3, held.4, λ over. absurd (created-stays q m held.0 at (gives.0, gives.1 ∙ sym held.3) over))
       go (Ioid n) gives held goes =
           let w = goes (elim gives.0 [
             | inl reads ↦ inl reads
             | inr puts ↦ inr (inl puts)
           ]) in
-          let cid : wire_of held.1.channel ≡ w.2 = w.5 held.0 held.1 held.2 gives.0 (gives.1 ∙ sym held.3) in (
+          let its = w.5 held.0 held.1 held.2 gives.0 (gives.1 ∙ sym held.3) in
+          let cid : wire_of held.1.channel ≡ w.2 = its.0 in (
             held.0,
             held.1,
             held.2,
@@ -268,10 +424,12 @@ module _ (on : Handle) (x y : Client) (e : Conduct) (sent : List Sending) (base 
             held.4,
             held.5,
             (w.0, w.1, went-new q w.0 w.1 (wire_of held.1.channel) m at (subst (λ (k : ℕ). HasChannel e (length e.sent) w.0 w.1 k (sid_in m)) (sym cid) w.3)),
+            λ over. absurd (its.1 over),
           )
       go (SubId n) gives held goes =
           let w = goes (inr (inr (inr (inl gives.0)))) in
-          let cid : wire_of held.1.channel ≡ w.2 = w.6 held.0 held.1 held.2 gives.0 (gives.1 ∙ sym held.3) in (
+          let its = w.6 held.0 held.1 held.2 gives.0 (gives.1 ∙ sym held.3) in
+          let cid : wire_of held.1.channel ≡ w.2 = its.0 in (
             held.0,
             held.1,
             held.2,
@@ -279,6 +437,7 @@ module _ (on : Handle) (x y : Client) (e : Conduct) (sent : List Sending) (base 
             held.4,
             (w.0, w.1, went-new q w.0 w.1 (wire_of held.1.channel) m at (subst (λ (k : ℕ). HasChannel e (length e.sent) w.0 w.1 k (sid_in m)) (sym cid) w.3)),
             λ stands. uncancelled-new q m at,
+            λ over. absurd (its.1 over),
           )
 
   held-after : IsConnectedAt y on → (l : ℕ) (s : Fields) (id : Id) → At after.sent l s → Gives s id
@@ -300,7 +459,7 @@ module _ (on : Handle) (x y : Client) (e : Conduct) (sent : List Sending) (base 
   -- ---- what is sent is legal
 
   held-by : (l : ℕ) (s : Fields) (id : Id) → HeldAs on x e l s id → HeldBy on x s id
-  held-by l s (Cid n) held = held
+  held-by l s (Cid n) held = (held.0, held.1, held.2, held.3, held.4)
   held-by l s (Ioid n) held = (held.0, held.1, held.2, held.3, held.4, held.5)
   held-by l s (SubId n) held = (held.0, held.1, held.2, held.3, held.4)
 
@@ -310,7 +469,7 @@ module _ (on : Handle) (x y : Client) (e : Conduct) (sent : List Sending) (base 
       | inl old ↦ on-channel-forth e after grows k m (At-within e.sent k m old) (base.legal.on_channel k m old is)
       | inr new ↦
           let s = said-at on sent new.0 m new.2 in
-          let w : GoesOn y e m = subst (λ (z : Fields). GoesOn y e z) (sym s.4) (turn.goes s.0 s.1 s.2 s.3 (subst (λ (z : Fields). IsOnChannel z) s.4 is)) in (
+          let w : GoesOn on y e m = subst (λ (z : Fields). GoesOn on y e z) (sym s.4) (turn.goes s.0 s.1 s.2 s.3 (subst (λ (z : Fields). IsOnChannel z) s.4 is)) in (
             w.0,
             w.1,
             w.2,
@@ -367,6 +526,6 @@ module _ (on : Handle) (x y : Client) (e : Conduct) (sent : List Sending) (base 
 
   pub turned : Sound on y after
   turned = record {
-    base = record { few = turn.few; placed = turn.placed; told = told-sent e ms base.told; adds = adds-after; held = held-after; legal = legal-after };
+    base = record { few = turn.few; placed = turn.placed; told = told-sent e ms base.told; adds = adds-after; stopped = stopped-after; held = held-after; legal = legal-after };
     channels = channels-after;
   }

@@ -15,18 +15,18 @@ use Rattle.ca_wire.specs.Fields.{Fields}
 use Rattle.ca_model.specs.Answers.{Sending}
 use Rattle.ca_model.specs.Client.{Channel, Clearing, Client, Connecting, Creating, Doomed, Leaving, Live, Native, On, Phase, connection_at, sending}
 use Rattle.ca_model.specs.ClientEnds.{is_connecting}
-use Rattle.ca_model.specs.Sends.{Conduct, IsFree, IsOnChannel}
+use Rattle.ca_model.specs.Sends.{Conduct, Frees, HasCleared, IsFree, IsOnChannel}
 use Rattle.ca_model.specs.Speech.{Cid, Gives, Id, Ioid, SubId}
 use Rattle.ca_model.specs.Placed.{IsPlaced}
 use Rattle.ca_model.proofs.Placed.{Links, placed-linked}
 use Rattle.ca_laws_parts.specs.Held.{AreFew}
 use Rattle.ca_laws_parts.specs.ClientRows.{sent_on}
 use Rattle.ca_laws_parts.specs.Conduct.{with_all_sent}
-use Rattle.ca_laws_parts.proofs.Backs.{AsksAs, Backs, SubscribesOn, Was, backs-same, sent-tables, subscribes-on}
+use Rattle.ca_laws_parts.proofs.Backs.{AsksAs, Backs, BacksOn, CancelsAs, SubscribesOn, Was, backs-same, over-back, sent-tables, subscribes-on}
 use Rattle.ca_laws_parts.proofs.Given.{given-nothing, none-given}
-use Rattle.ca_laws_parts.proofs.Growing.{Added, Went}
-use Rattle.ca_laws_parts.proofs.Rests.{Rests, RestsBut, rests-same}
-use Rattle.ca_laws_parts.proofs.Sound.{Base, GoesOn, HeldAs, IsConnectedAt, IsEnding, Sound, Stands, Turn, turned}
+use Rattle.ca_laws_parts.proofs.Growing.{Went}
+use Rattle.ca_laws_parts.proofs.Rests.{OverAt, Rests, RestsBut, held-cancelled, rests-same}
+use Rattle.ca_laws_parts.proofs.Sound.{AddedHeld, Base, ClearsNow, GoesOn, HeldAs, HeldThen, HeldWith, IsConnectedAt, IsEnding, Overs, Sound, Stands, Stopped, Turn, adds-held, turned}
 
 -- ---- messages that give no id and are on no channel
 
@@ -64,11 +64,12 @@ ending-talks m is = elim is [
 
 -- ---- what is held stays held
 
-module _ (on : Handle) (x y : Client) (e : Conduct) where
-  pub keeps-rests : Rests on x y → AsksAs x.requests y.requests → SubscribesOn x.subscriptions y.subscriptions → (l : ℕ) (s : Fields) (id : Id)
-      → HeldAs on x e l s id → HeldAs on y e l s id
-  keeps-rests rests asks subs l s (Cid n) held = (let w = rests.channels held.0 held.1 held.2 held.4 in (held.0, w.0, w.1, held.3, w.2))
-  keeps-rests rests asks subs l s (Ioid n) held =
+-- of a channel that is over this holds if that did before
+module _ (on : Handle) (x y : Client) (e : Conduct) (Old New : ℕ → Type 0) (over : (h : Handle) → OverAt on y.channels h → (OverAt on x.channels h → Old (wire_of h)) → New (wire_of h)) where
+  pub keeps-with : Rests on x y → AsksAs x.requests y.requests → SubscribesOn x.subscriptions y.subscriptions → (l : ℕ) (s : Fields) (id : Id)
+      → HeldWith Old on x e l s id → HeldWith New on y e l s id
+  keeps-with rests asks subs l s (Cid n) held = (let w = rests.channels held.0 held.1 held.2 held.4 in (held.0, w.0, w.1, held.3, w.2, λ o. over held.0 o held.5))
+  keeps-with rests asks subs l s (Ioid n) held =
       let w = rests.requests held.0 held.1 held.2 held.4 in
       let same : (w.0).channel ≡ held.1.channel = asks held.0 held.1 w.0 held.2 w.1 in (
         held.0,
@@ -78,8 +79,9 @@ module _ (on : Handle) (x y : Client) (e : Conduct) where
         w.2,
         held.5 ∙ ap (λ (a : Asked). command_number (command_of a)) (sym w.3),
         subst (λ (h : Handle). Went e l (wire_of h) s) (sym same) held.6,
+        λ o. subst (λ (h : Handle). New (wire_of h)) (sym same) (over held.1.channel (subst (λ (h : Handle). OverAt on y.channels h) same o) held.7),
       )
-  keeps-rests rests asks subs l s (SubId n) held =
+  keeps-with rests asks subs l s (SubId n) held =
       let w = rests.subscriptions held.0 held.1 held.2 held.4 in
       let b = subs held.0 held.1 w.0 held.2 w.1 in (
         held.0,
@@ -89,14 +91,27 @@ module _ (on : Handle) (x y : Client) (e : Conduct) where
         w.2,
         subst (λ (h : Handle). Went e l (wire_of h) s) (sym b.0) held.5,
         λ stands. held.6 (b.1 stands),
+        λ o. subst (λ (h : Handle). New (wire_of h)) (sym b.0) (over held.1.channel (subst (λ (h : Handle). OverAt on y.channels h) b.0 o) held.7),
       )
+
+module _ (on : Handle) (x y : Client) (e : Conduct) (sent : List Sending) (overs : Overs on sent x y) where
+  over-so : (l : ℕ) (h : Handle) → OverAt on y.channels h → (OverAt on x.channels h → HasCleared e l (length e.sent) (wire_of h)) → HasCleared e l (length e.sent) (wire_of h) ⊎ ClearsNow on sent (wire_of h)
+  over-so l h o was = elim (overs h o) [
+    | inl old ↦ inl (was old)
+    | inr now ↦ inr now
+  ]
+
+  pub keeps-rests : Rests on x y → AsksAs x.requests y.requests → SubscribesOn x.subscriptions y.subscriptions → (l : ℕ) (s : Fields) (id : Id)
+      → HeldAs on x e l s id → HeldThen on sent y e l s id
+  keeps-rests rests asks subs l s id held =
+      keeps-with on x y e (λ (cid : ℕ). HasCleared e l (length e.sent) cid) (λ (cid : ℕ). HasCleared e l (length e.sent) cid ⊎ ClearsNow on sent cid) (over-so l) rests asks subs l s id held
 
   -- or what was read just now frees it
   pub keeps-but : (c : Handle) (m : Fields) → RestsBut on c m x y → AsksAs x.requests y.requests → SubscribesOn x.subscriptions y.subscriptions
-      → (c ≡ on → (j : ℕ) × At e.came j m × At e.read j (length e.sent)) → (l : ℕ) (s : Fields) (id : Id) → At e.sent l s → l < length e.sent → Gives s id
-      → HeldAs on x e l s id → HeldAs on y e l s id ⊎ IsFree e l (length e.sent)
-  keeps-but c m rests asks subs read l s (Cid n) at lt gives held = elim (rests.channels held.0 held.1 held.2 held.4) [
-    | inl w ↦ inl (held.0, w.0, w.1, held.3, w.2)
+      → (c ≡ on → (j : ℕ) × At e.came j m × At e.read j (length e.sent)) → Stopped on x e → (l : ℕ) (s : Fields) (id : Id) → At e.sent l s → l < length e.sent → Gives s id
+      → HeldAs on x e l s id → HeldThen on sent y e l s id ⊎ IsFree e l (length e.sent)
+  keeps-but c m rests asks subs read stopped l s (Cid n) at lt gives held = elim (rests.channels held.0 held.1 held.2 held.4) [
+    | inl w ↦ inl (held.0, w.0, w.1, held.3, w.2, λ o. over-so l held.0 o held.5)
     | inr gone ↦
         let r = read gone.0 in
         inr (
@@ -113,12 +128,12 @@ module _ (on : Handle) (x y : Client) (e : Conduct) where
             gives.0,
             elim gone.1 [
               | inl fails ↦ inl (fails.0, fails.1 ∙ held.3 ∙ sym gives.1)
-              | inr clears ↦ inr (clears.0, clears.1 ∙ held.3 ∙ sym gives.1)
+              | inr clears ↦ inr (clears.0, clears.1 ∙ held.3 ∙ sym gives.1, subst (λ (k : ℕ). HasCleared e l (length e.sent) k) (held.3 ∙ sym gives.1) (held.5 clears.2))
             ],
           ),
         )
   ]
-  keeps-but c m rests asks subs read l s (Ioid n) at lt gives held = elim (rests.requests held.0 held.1 held.2 held.4) [
+  keeps-but c m rests asks subs read stopped l s (Ioid n) at lt gives held = elim (rests.requests held.0 held.1 held.2 held.4) [
     | inl w ↦
         let same : (w.0).channel ≡ held.1.channel = asks held.0 held.1 w.0 held.2 w.1 in
         inl (
@@ -129,6 +144,7 @@ module _ (on : Handle) (x y : Client) (e : Conduct) where
           w.2,
           held.5 ∙ ap (λ (a : Asked). command_number (command_of a)) (sym w.3),
           subst (λ (h : Handle). Went e l (wire_of h) s) (sym same) held.6,
+          λ o. subst (λ (h : Handle). HasCleared e l (length e.sent) (wire_of h) ⊎ ClearsNow on sent (wire_of h)) (sym same) (over-so l held.1.channel (subst (λ (h : Handle). OverAt on y.channels h) same o) held.7),
         )
     | inr gone ↦
         let r = read gone.0 in
@@ -149,11 +165,11 @@ module _ (on : Handle) (x y : Client) (e : Conduct) where
                   gives.0,
                   inr (errs.0, (errs.1.0, errs.1.1.head, errs.1.1.text, errs.1.1.spells, errs.1.1.parts, errs.1.2 ∙ sym held.5, errs.1.3 ∙ held.3 ∙ sym gives.1)),
                 ))
-            | inr (inr clears) ↦ inr (inr (inr (held.6.0, held.6.1, wire_of held.1.channel, held.6.2, clears.0, clears.1)))
+            | inr (inr clears) ↦ inr (inr (inr (held.6.0, held.6.1, wire_of held.1.channel, held.6.2, clears.0, clears.1, held.7 clears.2)))
           ],
         )
   ]
-  keeps-but c m rests asks subs read l s (SubId n) at lt gives held = elim (rests.subscriptions held.0 held.1 held.2 held.4) [
+  keeps-but c m rests asks subs read stopped l s (SubId n) at lt gives held = elim (rests.subscriptions held.0 held.1 held.2 held.4) [
     | inl w ↦
         let b = subs held.0 held.1 w.0 held.2 w.1 in
         inl (
@@ -164,32 +180,26 @@ module _ (on : Handle) (x y : Client) (e : Conduct) where
           w.2,
           subst (λ (h : Handle). Went e l (wire_of h) s) (sym b.0) held.5,
           λ stands. held.6 (b.1 stands),
+          λ o. subst (λ (h : Handle). HasCleared e l (length e.sent) (wire_of h) ⊎ ClearsNow on sent (wire_of h)) (sym b.0) (over-so l held.1.channel (subst (λ (h : Handle). OverAt on y.channels h) b.0 o) held.7),
         )
     | inr gone ↦
         let r = read gone.0 in
-        inr (
-          r.0,
-          length e.sent,
-          s,
-          m,
-          at,
-          r.1,
-          r.2,
-          lt,
-          omega arith,
-          elim gone.1 [
-            | inl confirms ↦ inr (inr (inl (gives.0, inl (confirms.0, confirms.1, confirms.2 ∙ held.3 ∙ sym gives.1))))
-            | inr (inl errs) ↦
-                inr (inr (inl (
-                  gives.0,
-                  inr (
-                    (errs.0, (errs.1.0, errs.1.1.head, errs.1.1.text, errs.1.1.spells, errs.1.1.parts, errs.1.2 ∙ sym gives.0, errs.1.3 ∙ held.3 ∙ sym gives.1)),
-                    held.6 errs.2,
-                  ),
-                )))
-            | inr (inr clears) ↦ inr (inr (inr (held.5.0, held.5.1, wire_of held.1.channel, held.5.2, clears.0, clears.1)))
-          ],
-        )
+        let freed : Frees e l (length e.sent) s m → IsFree e l (length e.sent) = λ f. (r.0, length e.sent, s, m, at, r.1, r.2, lt, omega arith, f) in
+        elim gone.1 [
+          | inl confirms ↦ elim (stopped held.0 held.1 l s held.2 (held-cancelled x.channels on confirms.3.0 held.1 confirms.3.1 held.4) at (gives.0, gives.1 ∙ sym held.3)) [
+            | inl free ↦ inr free
+            | inr stops ↦ inr (freed (inr (inr (inl (gives.0, inl (confirms.0, confirms.1, confirms.2 ∙ held.3 ∙ sym gives.1, stops))))))
+          ]
+          | inr (inl errs) ↦
+              inr (freed (inr (inr (inl (
+                gives.0,
+                inr (
+                  (errs.0, (errs.1.0, errs.1.1.head, errs.1.1.text, errs.1.1.spells, errs.1.1.parts, errs.1.2 ∙ sym gives.0, errs.1.3 ∙ held.3 ∙ sym gives.1)),
+                  held.6 errs.2,
+                ),
+              )))))
+          | inr (inr clears) ↦ inr (freed (inr (inr (inr (held.5.0, held.5.1, wire_of held.1.channel, held.5.2, clears.0, clears.1, held.7 clears.2)))))
+        ]
   ]
 
 -- ---- what is known of a channel that was there
@@ -211,11 +221,11 @@ module _ (on : Handle) (x : Client) (e : Conduct) where
 
   -- a subscription that stands, on a channel that was live
   pub adds-was : Base on x e → (y : Client) → Backs on x y → (g : Handle) (d : Subscription) (ch : Channel) (n : Native) (rights : ℕ) → under y.subscriptions g ≡ Some d
-      → stands_in d.stage ≡ true → under y.channels d.channel ≡ Some ch → ch.standing ≡ On on (Live n rights) → Added e n.sid (wire_of g)
+      → stands_in d.stage ≡ true → under y.channels d.channel ≡ Some ch → ch.standing ≡ On on (Live n rights) → AddedHeld on x e n.sid (wire_of g)
   adds-was base y backs g d ch n rights there stands on_it live =
       let s = backs.subscriptions g d there in
       let was = backs.channels d.channel ch (Live n rights) on_it live in
-      base.adds g s.0 was.0 n was.1 s.1 (s.3 stands) (subst (λ (h : Handle). under x.channels h ≡ Some was.0) s.2 was.2) was.3
+      adds-held on x e base g s.0 was.0 n was.1 s.1 (s.3 stands) (subst (λ (h : Handle). under x.channels h ≡ Some was.0) s.2 was.2) was.3
 
 -- a channel that is on a circuit, and does not wait for it: that is connected
 pub live-linked : (on : Handle) (x : Client) (h : Handle) (ch : Channel) (p : Phase) → IsPlaced x → under x.channels h ≡ Some ch → ch.standing ≡ On on p
@@ -226,15 +236,18 @@ live-linked on x h ch p placed there stands not_it = sym (placed.waiting h ch on
 
 -- a client with the same tables
 module _ (on : Handle) (x y z : Client) (e : Conduct) (sent : List Sending) (channels : y.channels ≡ z.channels) (requests : y.requests ≡ z.requests) (subscriptions : y.subscriptions ≡ z.subscriptions) (links : Links z y) where
-  goes-same : (m : Fields) → GoesOn z e m → GoesOn y e m
+  over-same : (h : Handle) → OverAt on y.channels h → OverAt on z.channels h
+  over-same h o = subst (λ (v : Table Channel). OverAt on v h) channels o
+
+  goes-same : (m : Fields) → GoesOn on z e m → GoesOn on y e m
   goes-same m g = (
     g.0,
     g.1,
     g.2,
     g.3,
     g.4,
-    λ q r there. g.5 q r (subst (λ (t : Table Request). under t q ≡ Some r) requests there),
-    λ k d there. g.6 k d (subst (λ (t : Table Subscription). under t k ≡ Some d) subscriptions there),
+    λ q r there which same. (let its = g.5 q r (subst (λ (t : Table Request). under t q ≡ Some r) requests there) which same in (its.0, λ o. its.1 (over-same r.channel o))),
+    λ k d there which same. (let its = g.6 k d (subst (λ (t : Table Subscription). under t k ≡ Some d) subscriptions there) which same in (its.0, λ o. its.1 (over-same d.channel o))),
   )
 
   pub turn-same : Turn on x z e sent → Turn on x y e sent
@@ -250,23 +263,33 @@ module _ (on : Handle) (x y z : Client) (e : Conduct) (sent : List Sending) (cha
     adds = λ g d ch n rights there stands on_it.
         t.adds g d ch n rights (subst (λ (v : Table Subscription). under v g ≡ Some d) subscriptions there) stands (subst (λ (v : Table Channel). under v d.channel ≡ Some ch) channels on_it);
     cancelled = λ i s g d at here stops there. t.cancelled i s g d at here stops (subst (λ (v : Table Subscription). under v g ≡ Some d) subscriptions there);
+    stops = λ g d there. t.stops g d (subst (λ (v : Table Subscription). under v g ≡ Some d) subscriptions there);
     alone = t.alone;
     goes = λ i s at here is. goes-same s.message (t.goes i s at here is);
+    overs = λ h o. t.overs h (over-same h o);
     cancels = t.cancels;
     opens = λ connected. t.opens (sym (links on) ∙ connected);
     linked = t.linked;
     keeps = λ l s id at gives held. elim (t.keeps l s id at gives held) [
       | inl stays ↦
           let b = backs-same on z y channels requests subscriptions in
-          inl (keeps-rests on z y e (rests-same on z y channels requests subscriptions) b.requests (subscribes-on _ _ b.subscriptions) l s id stays)
+          let Over : ℕ → Type 0 = λ (cid : ℕ). HasCleared e l (length e.sent) cid ⊎ ClearsNow on sent cid in
+          inl (keeps-with on z y e Over Over (λ h o was. was (over-same h o)) (rests-same on z y channels requests subscriptions) b.requests (subscribes-on _ _ b.subscriptions) l s id stays)
       | inr free ↦ inr free
     ];
   }
 
+-- channels as they were
+pub overs-back : (on : Handle) (x y : Client) (sent : List Sending) → BacksOn on x.channels y.channels → Overs on sent x y
+overs-back on x y sent back h o = inl (over-back on x.channels y.channels back h o)
+
+pub overs-same : (on : Handle) (x y : Client) (sent : List Sending) → y.channels ≡ x.channels → Overs on sent x y
+overs-same on x y sent same h o = inl (subst (λ (v : Table Channel). OverAt on v h) same o)
+
 -- no message on a channel is sent
 pub turn-plain : (on : Handle) (x y : Client) (e : Conduct) (sent : List Sending) → Base on x e → Known on x e → AreFew y → IsPlaced y → Backs on x y
     → (IsConnectedAt y on → IsConnectedAt x on ⊎ (e.sent ≡ []))
-    → ((l : ℕ) (s : Fields) (id : Id) → At e.sent l s → Gives s id → HeldAs on x e l s id → HeldAs on y e l s id ⊎ IsFree e l (length e.sent))
+    → ((l : ℕ) (s : Fields) (id : Id) → At e.sent l s → Gives s id → HeldAs on x e l s id → HeldThen on sent y e l s id ⊎ IsFree e l (length e.sent))
     → ArePlain sent → Turn on x y e sent
 turn-plain on x y e sent base known few placed backs opens keeps plain = record {
   few = few;
@@ -275,8 +298,10 @@ turn-plain on x y e sent base known few placed backs opens keeps plain = record 
   cleared = λ i s h ch p at here clears there stands same. absurd (both_ways (talks s.message.command) (plain i s at) (ap talks clears));
   adds = λ g d ch n rights there stands on_it live. inl (adds-was on x e base y backs g d ch n rights there stands on_it live);
   cancelled = λ i s g d at here stops there stands same. both_ways (talks s.message.command) (plain i s at) (ap talks stops);
+  stops = λ g d there stops. inl (backs.cancelled on g d there stops);
   alone = λ i j s r at_s at_r ends. absurd (both_ways (talks s.message.command) (plain i s at_s) (ending-talks s.message ends));
   goes = λ i s at here is. absurd (both_ways (talks s.message.command) (plain i s at) (on-talks s.message is));
+  overs = overs-back on x y sent backs.channels;
   cancels = λ i s at here stops. absurd (both_ways (talks s.message.command) (plain i s at) (ap talks stops));
   opens = opens;
   linked = λ i s id at here gives. absurd (both_ways (talks s.message.command) (plain i s at) (gives-talks s.message id gives));
@@ -304,7 +329,7 @@ sound-plain on x y e sent channels requests subscriptions links plain sound =
       subscriptions = subst (λ (v : Table Subscription). length v ≤ 65536) (sym subscriptions) sound.base.few.subscriptions;
     })
     (placed-linked x y channels requests subscriptions links sound.base.placed) b (λ connected. inl (sym (links on) ∙ connected))
-    (λ l s id at gives held. inl (keeps-rests on x y e (rests-same on x y channels requests subscriptions) b.requests (subscribes-on _ _ b.subscriptions) l s id held)) plain)
+    (λ l s id at gives held. inl (keeps-rests on x y e sent (overs-same on x y sent channels) (rests-same on x y channels requests subscriptions) b.requests (subscribes-on _ _ b.subscriptions) l s id held)) plain)
     (given-nothing on x y sent (plain-none sent plain))
 
 no-message : (i : ℕ) (s : Sending) → At [] i s → ⊥
@@ -315,7 +340,7 @@ none-plain i s at = absurd (no-message i s at)
 
 -- nothing is sent
 pub sound-silent : (on : Handle) (x y : Client) (e : Conduct) → AreFew y → IsPlaced y → Backs on x y → (IsConnectedAt y on → IsConnectedAt x on)
-    → ((l : ℕ) (s : Fields) (id : Id) → At e.sent l s → Gives s id → HeldAs on x e l s id → HeldAs on y e l s id ⊎ IsFree e l (length e.sent)) → Sound on x e → Sound on y e
+    → ((l : ℕ) (s : Fields) (id : Id) → At e.sent l s → Gives s id → HeldAs on x e l s id → HeldThen on [] y e l s id ⊎ IsFree e l (length e.sent)) → Sound on x e → Sound on y e
 sound-silent on x y e few placed backs opens keeps sound =
     subst (λ (f : Conduct). Sound on y f) (sent-nothing on e)
     (turned on x y e [] sound.base (turn-plain on x y e [] sound.base sound.channels few placed backs (λ connected. inl (opens connected)) keeps none-plain) (given-nothing on x y [] none-given))
@@ -325,13 +350,14 @@ pub turn-sending : (on : Handle) (x z : Client) (e : Conduct) (sent : List Sendi
 turn-sending on x z e sent links t = (let s = sent-tables sent z in turn-same on x (sending sent z) z e sent s.0 s.1 s.2 links t)
 
 -- the circuit is not connected
-pub sound-off : (on : Handle) (x y : Client) (e : Conduct) → is_none (connection_at y on) ≡ true → AreFew y → IsPlaced y → Base on x e → Sound on y e
-sound-off on x y e off few placed base = record {
+pub sound-off : (on : Handle) (x y : Client) (e : Conduct) → is_none (connection_at y on) ≡ true → AreFew y → IsPlaced y → CancelsAs x.subscriptions y.subscriptions → Base on x e → Sound on y e
+sound-off on x y e off few placed cancels base = record {
   base = record {
     few = few;
     placed = placed;
     told = base.told;
     adds = λ g d ch n rights there stands on_it live. absurd (both_ways (is_none (connection_at y on)) (live-linked on y d.channel ch (Live n rights) placed on_it live refl) off);
+    stopped = λ g d l s there stops. (let b = cancels on g d there stops in base.stopped g b.0 l s b.1 b.2);
     held = λ connected l s id at gives. absurd (both_ways (is_none (connection_at y on)) connected off);
     legal = base.legal;
   };

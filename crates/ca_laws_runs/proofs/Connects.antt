@@ -9,23 +9,24 @@ use Rattle.ca_text.specs.Place.{At}
 use Rattle.ca_text.proofs.Places.{At-after, At-map, At-mapped, At-parts, some_is}
 use Rattle.ca_arena.specs.declared.handle.Handle.{Handle}
 use Rattle.ca_ids.specs.Table.{held, same_handle, under}
-use Rattle.ca_monitor.specs.Subscriptions.{Cancelled, Ended, Stage, Stands}
+use Rattle.ca_monitor.specs.Subscriptions.{Cancelled, Ended, Stage, Stands, Subscription, drains_in}
 use Rattle.ca_text.specs.declared.command.Command.TheVariants as command
 use Rattle.ca_wire.specs.Messages.{name_request, version_request}
 use Rattle.ca_model.specs.Answers.{Closing, Sending}
-use Rattle.ca_model.specs.Client.{Channel, Client, ClientCircuit, Creating, On, Phase, ended, is_on_in, sending}
+use Rattle.ca_model.specs.Client.{Channel, Clearing, Client, ClientCircuit, Connecting, Creating, Doomed, Leaving, Live, On, Phase, Searching, Standing, ended, is_on_in, sending}
 use Rattle.ca_model.specs.ClientEnds.{ConnectsOn, begun, creating, creations, is_connecting, of_circuit, set_up}
 use Rattle.ca_model.specs.Hears.{create_sent}
 use Rattle.ca_model.specs.History.{Ask, Cancel, Clear, Create, Intent, Sent, Subscribe}
 use Rattle.ca_model.specs.History as history
-use Rattle.ca_model.specs.Placed.{IsPlaced}
+use Rattle.ca_model.specs.Placed.{IsPlaced, was_live}
 use Rattle.ca_model.proofs.Handles.{same-itself, same-not}
-use Rattle.ca_model.proofs.Standings.{at-filter-map, is-on}
+use Rattle.ca_model.proofs.Standings.{at-filter-map, fails-searched, is-on}
 use Rattle.ca_model.proofs.Tables.{all-back, held-under, under-held}
 use Rattle.ca_model.proofs.Thinner.{given-thin, number-or, thin-all}
 use Rattle.ca_model.specs.ClientEvents.{channel_number}
 use Rattle.ca_model.specs.World.{Names}
 use Rattle.ca_laws_parts.specs.Circuit.{stamped}
+use Rattle.ca_laws_parts.proofs.Rests.{stands-there}
 use Rattle.ca_laws_runs.specs.Quiet.{HasCid, IsBeingCreated, IsNamedIn, NoneAfter, PhaseIn, Quiet, StageIn, Tidy}
 use Rattle.ca_laws_runs.proofs.AddedApart.{IsPlain}
 use Rattle.ca_laws_runs.proofs.CidsSaid.{cid-none}
@@ -235,7 +236,7 @@ module _ (n : Names) (x : Client) (c : Handle) (d : ClientCircuit) (t : Tidy n x
               (is-on is_connecting c was.0 p stays.1 ∙ placed.waiting h was.0 c p was.1 stays.1
               ∙ ap (λ (o : Option ClientCircuit). is_none (option_and_then (λ (v : ClientCircuit). v.connection) o)) there ∙ ap is_none none))
         ];
-    subscriptions = λ g v a number at meant. staged number v.stage;
+    subscriptions = λ g v a number at meant. staged number g v at v.stage refl;
   }
     where
       not-such : (ask : Ask) → (Create ≡ ask → ⊥) → (p a : ℕ) (r : Sent) → At stamps p r → r.intent ≡ history.On a ask → ⊥
@@ -250,10 +251,31 @@ module _ (n : Names) (x : Client) (c : Handle) (d : ClientCircuit) (t : Tidy n x
       no-add : (m : ℕ) → Create ≡ Subscribe m → ⊥
       no-add m e = cc
 
-      staged : (number : ℕ) (s : Stage) → StageIn c stamps number s
-      staged number Stands = λ p a r at is. not-such (Cancel number) (no-cancel number) p a r at is
-      staged number (Ended e) = tt
-      staged number (Cancelled e) = λ same. (0, λ p a r at is. absurd (not-such (Subscribe number) (no-add number) p a r at is), λ p a r at is. absurd (not-such (Cancel number) (no-cancel number) p a r at is))
+      waits-only : (p : Phase) → is_connecting p ≡ true → was_live p ≡ true → ⊥
+      waits-only Connecting waits live = both_ways false refl live
+      waits-only (Creating rights) waits live = both_ways false refl waits
+      waits-only Doomed waits live = both_ways false refl waits
+      waits-only (Live native rights) waits live = both_ways false refl waits
+      waits-only Leaving waits live = both_ways false refl waits
+      waits-only Clearing waits live = both_ways false refl waits
+
+      -- a channel that was live is on no circuit that is not connected
+      none-live : (h : Handle) (ch : Channel) → under x.channels h ≡ Some ch → is_on_in was_live c ch ≡ true → (s : Standing) → ch.standing ≡ s → ⊥
+      none-live h ch at live Searching is = both_ways (is_on_in was_live c ch) (fails-searched was_live c ch is) live
+      none-live h ch at live (On o p) is =
+          let stands : ch.standing ≡ On c p = is ∙ ap (λ (k : Handle). On k p) (stands-there was_live c o ch p is live) in
+          waits-only p
+          (placed.waiting h ch c p at stands ∙ ap (λ (o : Option ClientCircuit). is_none (option_and_then (λ (v : ClientCircuit). v.connection) o)) there ∙ ap is_none none)
+          (sym (is-on was_live c ch p stands) ∙ live)
+
+      -- and no subscription was cancelled there
+      staged : (number : ℕ) (g : Handle) (v : Subscription) → under x.subscriptions g ≡ Some v → (s : Stage) → v.stage ≡ s → StageIn c stamps number s
+      staged number g v at Stands is = λ p a r there is_r. not-such (Cancel number) (no-cancel number) p a r there is_r
+      staged number g v at (Ended e) is = tt
+      staged number g v at (Cancelled e) is = λ same.
+          (let drains : drains_in c v.stage ≡ true = ap (λ (k : Stage). drains_in c k) is ∙ ap (λ (k : Handle). same_handle k c) same ∙ same-itself c in
+          let was = placed.attached.subscriptions g v c at drains in
+          absurd (none-live v.channel was.0 was.1 was.2 (was.0).standing refl))
 
   -- what the client makes of it
   pub connected-so : (k : Option Closing) (sent : List Sending) (y : Client) → ConnectsOn x c (Some d) k sent y → Connected n x c sent y × (k ≡ None → Quiet n y c (said n c sent))

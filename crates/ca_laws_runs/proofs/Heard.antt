@@ -192,10 +192,10 @@ module _ (kept : List ℕ) (n : Names) (x : Client) (on : Handle) (c : Circuit) 
       let m_is : w.0 ≡ number = some_is w.0 number (sym (number-so q d w.0 found.1 has speaks w.2) ∙ ap (named (SubId (wire_of q))) cancels) in
       let stage : StageIn on c.up w.0 (Cancelled on) = subst (λ (z : Stage). StageIn on c.up w.0 z) (cancelled-stage d.stage found.3) (quiet.subscriptions q d (channel_number n d.channel) w.0 found.1 w.2) in
       let being : IsBeingCancelled c.up number = subst (λ (z : ℕ). IsBeingCancelled c.up z) m_is (stage refl) in
-      let here : t.place ≡ being.0 = being.2 t.place channel s sent cancels in
+      let here : t.place ≡ being.0 = being.4 t.place channel s sent cancels in
       λ p r place is. elim (sub-named (wire_of q) r.intent number is) [
-        | inl subscribes ↦ inl ((let lt : p < being.0 = being.1 p subscribes.0 r place subscribes.1 in omega (arith, lt, here)), subscribes)
-        | inr again ↦ inr (being.2 p again.0 r place again.1 ∙ sym here)
+        | inl subscribes ↦ inl ((let lt : p < being.0 = being.3 p subscribes.0 r place subscribes.1 in omega (arith, lt, here)), subscribes)
+        | inr again ↦ inr (being.4 p again.0 r place again.1 ∙ sym here)
       ]
 
   -- an ERROR that refuses a subscription

@@ -259,7 +259,7 @@ cancel-is history.OfCircuit m suits is = absurd (suits (Cancel 0) is)
 module _ (c : Joined) (created : CreatedOn c) (under_so : AreUnder c.lists) (asked : (k : ℕ) (q : Sent) → At c.lists.up k q → Suits q.intent q.message)
     (all : (k a m : ℕ) (s : Sent) → At c.lists.up k s → s.intent ≡ On a (Cancel m) → IsCancelOf c.lists.up k a m s) where
   -- both go under the SID of one creation
-  same-sid : (k a m : ℕ) (s : Sent) → At c.lists.up k s → s.intent ≡ On a (Cancel m) → (of : IsCancelOf c.lists.up k a m s) → (of.r).message.p1 ≡ s.message.p1
+  pub same-sid : (k a m : ℕ) (s : Sent) → At c.lists.up k s → s.intent ≡ On a (Cancel m) → (of : IsCancelOf c.lists.up k a m s) → (of.r).message.p1 ≡ s.message.p1
   same-sid k a m s at is of =
       let u = under_so k a s (Cancel m) at is (λ e. cc) in
       let v = under_so of.l a of.r (Subscribe m) of.at of.adds (λ e. cc) in

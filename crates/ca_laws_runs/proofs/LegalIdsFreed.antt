@@ -1,20 +1,24 @@
 -- What was read frees an id, in the words of the statement: of each message that gave it.
-use Rattle.std.proofs.Common.{◌≡◌, ℕ, ◌<◌, ◌≤◌, ◌⊎◌, inl, inr, true, length, Some, refl, sym, ap, ◌∙◌, subst, arith}
+use Rattle.std.proofs.Common.{◌≡◌, ℕ, ◌<◌, ◌≤◌, ◌⊎◌, inl, inr, true, false, length, Some, refl, sym, ap, ◌∙◌, subst, arith}
+use Rattle.std.proofs.lemmas.Bool.{both_ways}
 use Rattle.ca_text.specs.declared.command.Command.TheVariants as command
 use Rattle.ca_text.specs.Place.{At}
 use Rattle.ca_text.proofs.Places.{At-map, At-mapped, At-one, At-or, At-within, some_is}
 use Rattle.ca_arena.specs.declared.handle.Handle.{Handle}
 use Rattle.ca_ids.specs.Table.{under}
 use Rattle.ca_ids.specs.Wire.{wire_of}
-use Rattle.ca_monitor.specs.Subscriptions.{Stage, Subscription, stands_in}
+use Rattle.ca_monitor.specs.Subscriptions.{Stage, Subscription, is_cancelled_in, stands_in}
+use Rattle.ca_monitor.specs.Subscriptions as monitor
 use Rattle.ca_requests.specs.Meaning.{QuotesHeader}
 use Rattle.ca_requests.specs.Requests.{Request, was_sent_on}
 use Rattle.ca_wire.specs.declared.header.Header.{Header}
 use Rattle.ca_wire.specs.Fields.{Fields}
 use Rattle.ca_model.specs.History.{Ask, Cancel, Circuit, Create, Intent, On, Sent, Step, Subscribe, Told}
 use Rattle.ca_model.specs.History as history
-use Rattle.ca_model.specs.Sends.{Frees, HasChannel, IsFree, IsUncancelled, Quotes, SameIndex}
+use Rattle.ca_model.specs.Client as phase
+use Rattle.ca_model.specs.Sends.{Frees, HasChannel, HasCleared, IsFree, IsUncancelled, Quotes, SameIndex}
 use Rattle.ca_model.specs.Speech.{Cid, Clears, Gives, Id, Ioid, Is, SubId, sid_in}
+use Rattle.ca_model.proofs.Handles.{same-is}
 use Rattle.ca_model.proofs.Thinner.{three-ways}
 use Rattle.ca_model.specs.Channels.{Suits, named}
 use Rattle.ca_model.specs.Legal.{client_conduct}
@@ -25,13 +29,16 @@ use Rattle.ca_laws_parts.proofs.Refused.{sub-named}
 use Rattle.ca_laws_parts.specs.Kept.{kept}
 use Rattle.ca_laws_parts.specs.Circuit.{HeldOn}
 use Rattle.ca_laws_runs.specs.Created.{AllCreated, CreatedOn}
-use Rattle.ca_laws_runs.specs.Quiet.{IsNamedIn, StageIn, Tidy}
+use Rattle.ca_laws_runs.specs.Quiet.{IsBeingCancelled, IsBeingCleared, IsNamedIn, PhaseIn, StageIn, Tidy}
 use Rattle.ca_laws_runs.proofs.Heard.{request-named}
-use Rattle.ca_laws_runs.proofs.LegalCancels.{AllCancels, add-parts, cancel-is}
+use Rattle.ca_laws_runs.proofs.LegalCancels.{AllCancels, add-parts, cancel-is, same-sid}
+use Rattle.ca_laws_parts.proofs.Answered.{cid-named}
 use Rattle.ca_laws_parts.proofs.Given.{GoneBy}
+use Rattle.ca_laws_parts.proofs.Rests.{OverAt, held-cancelled, is_over}
 use Rattle.ca_laws_runs.proofs.LegalIdsGoing.{IsFreedNow}
 use Rattle.ca_laws_runs.proofs.LegalRead.{ReadAfter, ReadOn}
 use Rattle.ca_laws_runs.proofs.Phased.{standing-stage}
+use Rattle.ca_laws_runs.proofs.Phases.{same-ask}
 use Rattle.ca_laws_runs.proofs.Says.{asked-at, subscribed-at}
 use Rattle.ca_laws_runs.proofs.Spent.{Known}
 use Rattle.ca_laws_runs.proofs.ToldGrows.{Onward}
@@ -83,19 +90,28 @@ module _ (c d : Joined) (on : Onward c d) where
     λ l r late before at clears. h.7 l r late before (sent-back l r (omega (arith, before, le)) at) clears,
   )
 
+  cleared-forth : (l b cid : ℕ) → HasCleared (client_conduct c.lists) l b cid → HasCleared (client_conduct d.lists) l b cid
+  cleared-forth l b cid z = (z.0, z.1, z.2, z.3, sent-forth z.0 z.1 z.4, z.5, z.6)
+
   frees-forth : (l b : ℕ) (request m : Fields) → l ≤ length c.lists.up → b ≤ length c.lists.up → Frees (client_conduct c.lists) l b request m
       → Frees (client_conduct d.lists) l b request m
   frees-forth l b request m l_le b_le frees = elim frees [
-    | inl cid ↦ inl cid
+    | inl cid ↦ inl (
+      cid.0,
+      elim cid.1 [
+        | inl fails ↦ inl fails
+        | inr clears ↦ inr (clears.0, clears.1, cleared-forth l b request.p1 clears.2)
+      ],
+    )
     | inr (inl ioid) ↦ inr (inl ioid)
     | inr (inr (inl sub)) ↦ inr (inr (inl (
       sub.0,
       elim sub.1 [
-        | inl confirms ↦ inl confirms
+        | inl confirms ↦ inl (confirms.0, confirms.1, confirms.2, λ u. confirms.3 (λ i s late before at. u i s late before (sent-forth i s at)))
         | inr refuses ↦ inr (refuses.0, λ i s late before at cancels one. refuses.1 i s late before (sent-back i s (omega (arith, before, b_le)) at) cancels one)
       ],
     )))
-    | inr (inr (inr clear)) ↦ inr (inr (inr (clear.0, clear.1, clear.2, channel-forth l clear.0 clear.1 clear.2 (sid_in request) l_le clear.3, clear.4, clear.5)))
+    | inr (inr (inr clear)) ↦ inr (inr (inr (clear.0, clear.1, clear.2, channel-forth l clear.0 clear.1 clear.2 (sid_in request) l_le clear.3, clear.4, clear.5, cleared-forth l b clear.2 clear.6)))
   ]
 
   -- what is free stays so, also at a later place
@@ -116,6 +132,20 @@ module _ (c d : Joined) (on : Onward c d) where
       )
 
 -- ---- what was meant by the last giver of an id that is held
+
+cancelled-stage : (on : Handle) (stage : Stage) → is_cancelled_in on stage ≡ true → stage ≡ monitor.Cancelled on
+cancelled-stage on monitor.Stands is = absurd (both_ways false refl is)
+cancelled-stage on (monitor.Cancelled o) is = ap (λ (z : Handle). monitor.Cancelled z) (same-is o on is)
+cancelled-stage on (monitor.Ended o) is = absurd (both_ways false refl is)
+
+-- a channel that is over in its phase
+being-over : (up : _) (number : ℕ) (p : phase.Phase) → is_over p ≡ true → PhaseIn up number p → IsBeingCleared up number
+being-over up number phase.Leaving is z = z
+being-over up number phase.Clearing is z = z
+being-over up number phase.Connecting is z = absurd (both_ways false refl is)
+being-over up number (phase.Creating rights) is z = absurd (both_ways false refl is)
+being-over up number phase.Doomed is z = absurd (both_ways false refl is)
+being-over up number (phase.Live native rights) is z = absurd (both_ways false refl is)
 
 abbrev intent-in : Handle × Intent → Intent
 intent-in e = e.1
@@ -166,6 +196,32 @@ module _ (w : World) (known : Known w) (cancels : AllCancels w) (created : AllCr
               let v = At-mapped (λ (z : Sent). z.message) c.lists.up p q there in
               uncleared c of (known.sided.right n c at_c).under asked a r.0 r.1 sid l b (p, v.0, late, before, v.1, subst (λ (z : Fields). Clears z sid) v.2 clears),
         ),
+      )
+
+  -- the CLEAR_CHANNEL of a channel that is over went out after all else that was sent on it
+  over-cleared : (h : Handle) → OverAt c.at_client x.core.channels h → (l : ℕ) (s : Sent) (ask : Ask) → At c.lists.up l s → s.intent ≡ On (channel_number x.names h) ask
+      → (ask ≡ history.Clear → ⊥) → (b : ℕ) → length c.lists.up ≤ b → HasCleared (client_conduct c.lists) l b (wire_of h)
+  over-cleared h o l s ask at is other b upto =
+      let a : ℕ = channel_number x.names h in
+      let z = being-over c.lists.up a o.1 o.4 ((known.quiet.quiet n c x at_c at_x opened).channels h o.0 o.2 o.1 o.3) in
+      let v : Sent = z.3.0 in
+      let at_v : At c.lists.up z.1 v = z.3.1 in
+      let is_v : v.intent ≡ On a history.Clear = z.3.2 in
+      let lt : z.1 < length c.lists.up = At-within c.lists.up z.1 v at_v in
+      let cid = (known.quiet.named n c x at_c at_x opened z.1 v at_v a).1 is_v in
+      let one : cid.0 ≡ h = At-one x.names.channels a cid.0 h cid.1 (tidy.numbered h o.0 o.2) in
+      let late : l < z.1 = elim (three-ways l z.1) [
+        | inl less ↦ less
+        | inr (inl same) ↦ absurd (other (same-ask a a ask history.Clear (sym is ∙ ap (λ (q : Sent). q.intent) (At-one c.lists.up z.1 s v (subst (λ (p : ℕ). At c.lists.up p s) same at) at_v) ∙ is_v)))
+        | inr (inr more) ↦ absurd (z.4 l s ask more at is)
+      ] in (
+        z.1,
+        v.message,
+        late,
+        omega (arith, lt, upto),
+        At-map (λ (q : Sent). q.message) c.lists.up z.1 v at_v,
+        subst (λ (i : Intent). Suits i v.message) is_v (asked z.1 v at_v),
+        cid.2 ∙ ap (λ (k : Handle). wire_of k) one,
       )
 
   -- a message that gave an id which is held is free, or is the last that gave it
@@ -239,21 +295,70 @@ module _ (w : World) (known : Known w) (cancels : AllCancels w) (created : AllCr
               (subst (λ (z : Stage). StageIn c.at_client c.lists.up f.0 z) (standing-stage d.stage stands) stage) i meant.0 v.0 v.1 (meant.2 ∙ ap (λ (z : ℕ). On meant.0 (Cancel z)) parts.1)
         ]
 
+    -- one that is cancelled on the circuit had its EVENT_CANCEL
+    was-cancelled : (g : Handle) (d : Subscription) → under x.core.subscriptions g ≡ Some d → is_cancelled_in c.at_client d.stage ≡ true
+        → (own : IsMeant c.lists (meant_by x.names.subscriptions g) (SubId (wire_of g))) → l ≡ own.0 → Gives s.message (SubId (wire_of g))
+        → (b : ℕ) → length c.lists.up ≤ b → IsUncancelled (client_conduct c.lists) l b s.message → ⊥
+    was-cancelled g d there stops own place gives b upto none =
+        let f = on-subscription g d there own place in
+        let a : ℕ = channel_number x.names d.channel in
+        let stage : StageIn c.at_client c.lists.up f.0 d.stage = (known.quiet.quiet n c x at_c at_x opened).subscriptions g d a f.0 there f.2 in
+        let being : IsBeingCancelled c.lists.up f.0 = subst (λ (z : Stage). StageIn c.at_client c.lists.up f.0 z) (cancelled-stage c.at_client d.stage stops) stage refl in
+        let q : Sent = being.2.0 in
+        let at_q : At c.lists.up being.0 q = being.2.1 in
+        let is_q : q.intent ≡ On being.1 (Cancel f.0) = being.2.2 in
+        let of = cancels n c being.0 being.1 f.0 q at_c at_q is_q in
+        let early : l < being.0 = being.3 l a s at f.1 in
+        let id : s.message.p2 ≡ q.message.p2 = known.quiet.ids n c at_c l being.0 a being.1 f.0 s q at at_q f.1 is_q in
+        elim (three-ways of.l l) [
+          | inl less ↦ of.own l s less early at (gives.0, id)
+          | inr (inr more) ↦ own.2.4 of.l of.r (subst (λ (z : ℕ). z < of.l) place more) of.at (of.gives.0, of.gives.1 ∙ sym id ∙ gives.1)
+          | inr (inl one) ↦
+              let same : of.r ≡ s = At-one c.lists.up l of.r s (subst (λ (p : ℕ). At c.lists.up p of.r) one of.at) at in
+              let sid : (of.r).message.p1 ≡ q.message.p1 =
+              same-sid c (created n c at_c) (known.sided.right n c at_c).under asked (λ k b m v there is. cancels n c k b m v at_c there is) being.0 being.1 f.0 q at_q is_q of in
+              let lt : being.0 < length c.lists.up = At-within c.lists.up being.0 q at_q in
+              none being.0 q.message early (omega (arith, lt, upto)) (At-map (λ (z : Sent). z.message) c.lists.up being.0 q at_q) (subst (λ (i : Intent). Suits i q.message) is_q (asked being.0 q at_q))
+              (sym sid ∙ ap (λ (z : Sent). z.message.p1) same) (sym id)
+        ]
+
     -- what was read frees the id that it gave
-    module _ (b : ℕ) (m : Fields) (within : l < length c.lists.up) where
+    module _ (b : ℕ) (m : Fields) (within : l < length c.lists.up) (upto : length c.lists.up ≤ b) where
       quoted : (h : Header) → QuotesHeader m h → Is command.Error m → h.command ≡ s.message.command → h.p2 ≡ s.message.p2 → Quotes s.message m
       quoted h quotes errs same id = (errs, (h, quotes.head, quotes.text, quotes.spells, quotes.parts, same, id))
 
       pub frees-it : (id : Id) → Gives s.message id → GoneBy c.at_client x.core m s.message id
           → IsFree (client_conduct c.lists) l (length c.lists.up) ⊎ Frees (client_conduct c.lists) l b s.message m
-      frees-it (Cid k) gives gone =
-          inr (inl (
-            gives.0,
-            elim gone.5 [
-              | inl fails ↦ inl (fails.0, fails.1 ∙ gone.3 ∙ sym gives.1)
-              | inr clears ↦ inr (clears.0, clears.1 ∙ gone.3 ∙ sym gives.1)
-            ],
-          ))
+      frees-it (Cid k) gives gone = elim gone.5 [
+        | inl fails ↦ inr (inl (gives.0, inl (fails.0, fails.1 ∙ gone.3 ∙ sym gives.1)))
+        | inr clears ↦
+            let h : Handle = gone.0 in
+            let own = (held-so.holds opened).channels.own h gone.1 gone.2 gone.4 in
+            let gives_h : Gives s.message (Cid (wire_of h)) = (gives.0, gives.1 ∙ sym gone.3) in
+            elim (last-or l s (Cid (wire_of h)) (On (channel_number x.names h) Create) at gives_h refl own) [
+              | inl is_free ↦ inl is_free
+              | inr place ↦
+                  let r : Sent = own.2.0 in
+                  let same : r ≡ s = At-one c.lists.up l r s (subst (λ (z : ℕ). At c.lists.up z r) (sym place) own.2.1) at in
+                  let on_it = cid-named (wire_of h) r.intent own.1 own.2.3 in
+                  let number : own.1 ≡ channel_number x.names h = sym (some_is (channel_number x.names h) own.1 own.3) in
+                  let is : s.intent ≡ On (channel_number x.names h) on_it.0 = ap (λ (z : Sent). z.intent) (sym same) ∙ on_it.1 ∙ ap (λ (z : ℕ). On z on_it.0) number in
+                  inr (inl (
+                    gives.0,
+                    inr (
+                      clears.0,
+                      clears.1 ∙ gone.3 ∙ sym gives.1,
+                      subst (λ (z : ℕ). HasCleared (client_conduct c.lists) l b z) (gone.3 ∙ sym gives.1) (over-cleared h clears.2 l s on_it.0 at is (not-clear (channel_number x.names h) on_it.0 is) b upto),
+                    ),
+                  ))
+            ]
+      ]
+        where
+          not-clear : (a : ℕ) (ask : Ask) → s.intent ≡ On a ask → ask ≡ history.Clear → ⊥
+          not-clear a ask is same =
+              let suits : s.message.command ≡ 12 = subst (λ (i : Intent). Suits i s.message) (is ∙ ap (λ (q : Ask). On a q) same) (asked l s at) in
+              let creates : s.message.command ≡ 18 = gives.0 in
+              omega (arith, suits, creates)
       frees-it (Ioid k) gives gone = elim gone.6 [
         | inl replies ↦ inr (inr (inl (gives.0, inl (replies.0 ∙ sym gone.5, replies.1 ∙ gone.3 ∙ sym gives.1))))
         | inr (inl errs) ↦ inr (inr (inl (gives.0, inr (quoted errs.1.0 errs.1.1 errs.0 (errs.1.2 ∙ sym gone.5) (errs.1.3 ∙ gone.3 ∙ sym gives.1)))))
@@ -267,14 +372,25 @@ module _ (w : World) (known : Known w) (cancels : AllCancels w) (created : AllCr
               | inr place ↦
                   let f = on-request q r gone.2 gone.4 own place in
                   let h = has-channel l (channel_number x.names r.channel) (history.Request f.0 f.1) s r.channel at f.2 (λ e. no-create f.0 f.1 e) f.3 in
-                  inr (inr (inr (inr (h.0, h.1, wire_of r.channel, h.2, clears.0, clears.1))))
+                  inr (inr (inr (inr (h.0, h.1, wire_of r.channel, h.2, clears.0, clears.1, over-cleared r.channel clears.2 l s (history.Request f.0 f.1) at f.2 (λ e. no-clear f.0 f.1 e) b upto))))
             ]
       ]
         where
           no-create : (kind : history.Kind) (k : ℕ) → history.Request kind k ≡ Create → ⊥
           no-create kind k e = cc
+
+          no-clear : (kind : history.Kind) (k : ℕ) → history.Request kind k ≡ history.Clear → ⊥
+          no-clear kind k e = cc
       frees-it (SubId k) gives gone = elim gone.5 [
-        | inl confirms ↦ inr (inr (inr (inl (gives.0, inl (confirms.0, confirms.1, confirms.2 ∙ gone.3 ∙ sym gives.1)))))
+        | inl confirms ↦
+            elim (last-or l s (SubId (wire_of g)) (meant_by x.names.subscriptions g) at gives_g refl own) [
+              | inl is_free ↦ inl is_free
+              | inr place ↦
+                  inr (inr (inr (inl (
+                    gives.0,
+                    inl (confirms.0, confirms.1, confirms.2 ∙ gone.3 ∙ sym gives.1, was-cancelled g d gone.2 (held-cancelled x.core.channels c.at_client confirms.3.0 d confirms.3.1 gone.4) own place gives_g b upto),
+                  ))))
+            ]
         | inr (inl errs) ↦
             elim (last-or l s (SubId (wire_of g)) (meant_by x.names.subscriptions g) at gives_g refl own) [
               | inl is_free ↦ inl is_free
@@ -287,7 +403,7 @@ module _ (w : World) (known : Known w) (cancels : AllCancels w) (created : AllCr
               | inr place ↦
                   let f = on-subscription g d gone.2 own place in
                   let h = has-channel l (channel_number x.names d.channel) (Subscribe f.0) s d.channel at f.1 (λ e. no-create f.0 e) f.3 in
-                  inr (inr (inr (inr (h.0, h.1, wire_of d.channel, h.2, clears.0, clears.1))))
+                  inr (inr (inr (inr (h.0, h.1, wire_of d.channel, h.2, clears.0, clears.1, over-cleared d.channel clears.2 l s (Subscribe f.0) at f.1 (λ e. no-clear f.0 e) b upto))))
             ]
       ]
         where
@@ -306,6 +422,9 @@ module _ (w : World) (known : Known w) (cancels : AllCancels w) (created : AllCr
           no-create : (k : ℕ) → Subscribe k ≡ Create → ⊥
           no-create k e = cc
 
+          no-clear : (k : ℕ) → Subscribe k ≡ history.Clear → ⊥
+          no-clear k e = cc
+
   -- so it is free in the words of the statement, as soon as that was read
   pub freed-now : (d : Joined) → Onward c d → (l : ℕ) (s : Sent) (id : Id) → At c.lists.up l s → Gives s.message id → IsFreedNow c d x s.message id
       → IsFree (client_conduct d.lists) l (length c.lists.up)
@@ -314,7 +433,7 @@ module _ (w : World) (known : Known w) (cancels : AllCancels w) (created : AllCr
       let g : Step = now.1 in
       let lt : l < length c.lists.up = At-within c.lists.up l s at in
       let sent_is : g.sent ≡ length c.lists.up = now.4 in
-      elim (frees-it l s at (length c.lists.up) t.message lt id gives now.5) [
+      elim (frees-it l s at (length c.lists.up) t.message lt (omega arith) id gives now.5) [
         | inl is_free ↦ free-forth c d on l (length c.lists.up) (length c.lists.up) (omega arith) (omega arith) is_free
         | inr frees ↦ (
           length c.lists.heard,

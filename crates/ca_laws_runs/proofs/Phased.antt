@@ -268,7 +268,8 @@ module _ (n : Names) (x : Client) (g : Handle) (d : Subscription) (t : Tidy n x)
           | inl own ↦
               let one : own.1.0 ≡ d = one-value x.subscriptions g own.1.0 d own.1.1 here in
               let none : NoCancel up m = subst (λ (w : Stage). StageIn c up m w) stage (quiet.subscriptions g d a m here (ap (λ (w : Handle). meant_by n.subscriptions w) (sym own.0) ∙ says)) in
-              subst (λ (w : Subscription). StageIn c (up ++ stamped n s ∷ []) m w.stage) (sym own.1.2) (λ same. stage-cancelled-of up m none)
+              subst (λ (w : Subscription). StageIn c (up ++ stamped n s ∷ []) m w.stage) (sym own.1.2)
+              (λ same. stage-cancelled-of up m (add-number (channel_number n d.channel) a meant.0 m (sym meant.2 ∙ ap (λ (w : Handle). meant_by n.subscriptions w) (sym own.0) ∙ says)) none)
           | inr old ↦
               stage-other c up (stamped n s) m v.stage (λ b e. no-add (channel_number n d.channel) b meant.0 m (sym is ∙ e))
               (λ b e. old.0 (one-subscription n x k g a (channel_number n d.channel) m t says (subst (λ (w : ℕ). meant_by n.subscriptions g ≡ history.On (channel_number n d.channel) (Subscribe w)) (cancel-number (channel_number n d.channel) b meant.0 m (sym is ∙ e)) meant.2)))
@@ -282,8 +283,11 @@ module _ (n : Names) (x : Client) (g : Handle) (d : Subscription) (t : Tidy n x)
           cancel-number : (a b m k : ℕ) → history.On a (Cancel m) ≡ history.On b (Cancel k) → m ≡ k
           cancel-number a b m k e = cc
 
-          stage-cancelled-of : (up : List Sent) (m : ℕ) → NoCancel up m → IsBeingCancelled (up ++ stamped n s ∷ []) m
-          stage-cancelled-of up m none = stage-cancelled c up (stamped n s) m (channel_number n d.channel) meant.0 is none
+          add-number : (a b m k : ℕ) → history.On a (Subscribe m) ≡ history.On b (Subscribe k) → m ≡ k
+          add-number a b m k e = cc
+
+          stage-cancelled-of : (up : List Sent) (m : ℕ) → meant.0 ≡ m → NoCancel up m → IsBeingCancelled (up ++ stamped n s ∷ []) m
+          stage-cancelled-of up m same none = stage-cancelled c up (stamped n s) m (channel_number n d.channel) (is ∙ ap (λ (w : ℕ). history.On (channel_number n d.channel) (Cancel w)) same) none
 
       far : (on : Handle) (up : List Sent) → (c ≡ on → ⊥) → Quiet n x on up → Quiet n z on up
       far on up other quiet = record {

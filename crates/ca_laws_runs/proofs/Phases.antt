@@ -111,12 +111,14 @@ module _ (on : Handle) (up : List Sent) (s : Sent) (number : ℕ) where
   cancelled-other : ((a : ℕ) → s.intent ≡ On a (Subscribe number) → ⊥) → ((a : ℕ) → s.intent ≡ On a (Cancel number) → ⊥) → IsBeingCancelled up number → IsBeingCancelled (up ++ s ∷ []) number
   cancelled-other adds cancels c = (
     c.0,
+    c.1,
+    asked-more up s c.1 c.0 (Cancel number) c.2,
     λ p a r at is. elim (At-snoc up s p r at) [
-      | inl old ↦ c.1 p a r old is
+      | inl old ↦ c.3 p a r old is
       | inr new ↦ absurd (adds a (ap (λ (z : Sent). z.intent) (sym new.1) ∙ is))
     ],
     λ p a r at is. elim (At-snoc up s p r at) [
-      | inl old ↦ c.2 p a r old is
+      | inl old ↦ c.4 p a r old is
       | inr new ↦ absurd (cancels a (ap (λ (z : Sent). z.intent) (sym new.1) ∙ is))
     ],
   )
@@ -135,12 +137,14 @@ module _ (on : Handle) (up : List Sent) (s : Sent) (number : ℕ) where
   stage-added b m is c = none-cancelled (λ a cancels. no-cancel b a m number (sym is ∙ cancels)) c
 
   -- its EVENT_CANCEL
-  pub stage-cancelled : (b m : ℕ) → s.intent ≡ On b (Cancel m) → NoCancel up number → IsBeingCancelled (up ++ s ∷ []) number
-  stage-cancelled b m is c = (
+  pub stage-cancelled : (b : ℕ) → s.intent ≡ On b (Cancel number) → NoCancel up number → IsBeingCancelled (up ++ s ∷ []) number
+  stage-cancelled b is c = (
     length up,
+    b,
+    asked-last up s b (Cancel number) is,
     λ p a r at adds. elim (At-snoc up s p r at) [
       | inl old ↦ At-within up p r old
-      | inr new ↦ absurd (no-cancel a b number m (sym adds ∙ ap (λ (z : Sent). z.intent) new.1 ∙ is))
+      | inr new ↦ absurd (no-cancel a b number number (sym adds ∙ ap (λ (z : Sent). z.intent) new.1 ∙ is))
     ],
     λ p a r at cancels. elim (At-snoc up s p r at) [
       | inl old ↦ absurd (c p a r old cancels)

@@ -74,7 +74,8 @@ NoCancel up number = (p a : ℕ) (r : Sent) → At up p r → r.intent ≡ On a 
 
 abbrev pub IsBeingCancelled : List Sent → (number : ℕ) → Type 0
 IsBeingCancelled up number =
-    (k : ℕ) × ((p a : ℕ) (r : Sent) → At up p r → r.intent ≡ On a (Subscribe number) → p < k)
+    (k b : ℕ) × IsAskedAt up k b (Cancel number)
+    × ((p a : ℕ) (r : Sent) → At up p r → r.intent ≡ On a (Subscribe number) → p < k)
     × ((p a : ℕ) (r : Sent) → At up p r → r.intent ≡ On a (Cancel number) → p ≡ k)
 
 -- A subscription at this stage: what was sent about it on the circuit of this handle.

@@ -55,22 +55,29 @@ IsUncancelled e l b add =
     (i : ℕ) (s : Fields) → l < i → i < b → At e.sent i s → Is command.EventCancel s → s.p1 ≡ add.p1
     → s.p2 ≢ add.p2
 
+-- Between its message at place l and the first b the client sent the CLEAR_CHANNEL of this CID.
+abbrev pub HasCleared : Conduct → (l b cid : ℕ) → Type 0
+HasCleared e l b cid =
+    (i : ℕ) × (s : Fields) × (l < i) × (i < b) × At e.sent i s × Is command.ClearChannel s
+    × (s.p2 ≡ cid)
+
 -- After b messages, message m frees the id that the request at place l gave. A CID: CREATE_CH_FAIL,
 -- or the reply to its CLEAR_CHANNEL. An IOID: the reply or an ERROR. A subscription id: the
--- confirmation of its cancel, or an ERROR if it was not cancelled. And each of a channel: the reply
+-- confirmation if it was cancelled, or an ERROR if it was not. And each of a channel: the reply
 -- to the channel's CLEAR_CHANNEL.
 abbrev pub Frees : Conduct → (l b : ℕ) → (request m : Fields) → Type 0
 Frees e l b request m =
     (Is command.CreateChannel request
     × ((Is command.CreateChannelFail m × (m.p1 ≡ request.p1))
-    ⊎ (Is command.ClearChannel m × (m.p2 ≡ request.p1))))
+    ⊎ (Is command.ClearChannel m × (m.p2 ≡ request.p1) × HasCleared e l b request.p1)))
     ⊎ (((Is command.ReadNotify request ⊎ Is command.WriteNotify request)
     × (((m.command ≡ request.command) × (m.p2 ≡ request.p2)) ⊎ Quotes request m))
     ⊎ ((Is command.EventAdd request
-    × ((Is command.EventAdd m × (m.payload ≡ []) × (m.p2 ≡ request.p2)) ⊎ (Quotes request m
-    × IsUncancelled e l b request)))
+    × ((Is command.EventAdd m × (m.payload ≡ []) × (m.p2 ≡ request.p2)
+    × (IsUncancelled e l b request → ⊥))
+    ⊎ (Quotes request m × IsUncancelled e l b request)))
     ⊎ ((i j cid : ℕ) × HasChannel e l i j cid (sid_in request) × Is command.ClearChannel m
-    × (m.p2 ≡ cid))))
+    × (m.p2 ≡ cid) × HasCleared e l b cid)))
 
 -- Before the client sent message k it read a message that freed the id that its
 -- message at place l gave.

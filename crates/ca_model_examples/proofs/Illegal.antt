@@ -9,15 +9,16 @@ use Rattle.ca_dbr.specs.Elements.{Elements, bytes_of, signed_bytes_4}
 use Rattle.ca_wire.specs.Fields.{Fields, padded}
 use Rattle.ca_wire.specs.Header.{HeaderFits, header_spelling, number16}
 use Rattle.ca_wire.specs.Message.{header_of}
+use Rattle.ca_wire.specs.Messages.{cancel_reply, cleared_reply}
 use Rattle.ca_wire.proofs.Headers.{header-spells}
 use Rattle.ca_model.specs.Speech.{Cid, Ioid, Creates, Gives, Id, In, Is, SubId, name_in, sid_in}
 use Rattle.ca_model.specs.History.{Cancel, Clear, Create, Read, Request, Subscribe, Write, Intent, On, Sent, Told, Step, Circuit, Entry, Line, Added, Called, Noticed, Opened}
 use Rattle.ca_model.specs.Channels.{IsHeld, Meant}
-use Rattle.ca_model.specs.Sends.{Conduct, Frees, HasChannel, SameIndex, IsConnected, IsDisconnect, IsOnChannel, IsOpenAt, IsRefused, IsUncancelled, ReadsBetween}
+use Rattle.ca_model.specs.Sends.{Conduct, Frees, HasChannel, IsFree, SameIndex, IsConnected, IsDisconnect, IsOnChannel, IsOpenAt, IsRefused, IsUncancelled, ReadsBetween}
 use Rattle.ca_model.specs.Legal.{BecomesLive, IsStanding, Legal, WasCalled, client_conduct, server_conduct}
 use Rattle.ca_model_examples.specs.Worlds.{putting, clearing, temp, adding, created_told, creating, disconnected, long, reading, step, temp_name, world}
 use Rattle.ca_model_examples.specs.Unsafe.{cancelling, opened, temp_removed, temp_there, updated}
-use Rattle.ca_model_examples.specs.Illegal.{added_again, asked_again, asked_with, both_asked, both_created, called_at, called_in, calls, cancel_called, clears_lost, confirm_out, created_again, created_read, goes_out, live_again, read_out, reads_out, refused, refused_out, alone, writing, unasked, sent_in, subscribe_called, told_closed, told_so, two_circuits, uncalled_in, update_out, write_called}
+use Rattle.ca_model_examples.specs.Illegal.{added_after, added_again, asked_after, asked_again, asked_with, both_asked, both_created, called_at, called_in, calls, cancel_called, clears_lost, confirm_out, created_again, created_read, goes_out, live_again, read_out, reads_out, refused, refused_out, alone, writing, unasked, sent_in, subscribe_called, told_closed, told_so, two_circuits, uncalled_in, update_out, write_called}
 use Rattle.ca_model_examples.specs.Parts.{CalledSo, HeldSo, MaySend, Sending, SendsWrong, SentSo}
 use Rattle.ca_model_examples.specs.Parts as part
 use Rattle.ca_model_examples.proofs.Lists.{each-at, none-at, one-at, two-at}
@@ -295,6 +296,184 @@ confirm-unread-rest p ne = quiet-sends p (confirm_out (step 0 0 0 ∷ step 1 0 0
 
 pub confirm-unread : SendsWrong part.Confirmations (sent_in (confirm_out (step 0 0 0 ∷ step 1 0 0 ∷ [])))
 confirm-unread = (confirm-unread-rest, λ h. (let f = its-sent part.Confirmations (confirm_out (step 0 0 0 ∷ step 1 0 0 ∷ [])) (calls (confirm_out (step 0 0 0 ∷ step 1 0 0 ∷ [])).up) temp_there refl refl h.0 1 _ refl refl refl in let two = each-at (λ (i : ℕ) (z : Fields). Is command.EventCancel z → i ≡ 2) (server_conduct (confirm_out (step 0 0 0 ∷ step 1 0 0 ∷ []))).came ((λ e. absurd (omega (arith, e))), ((λ e. absurd (omega (arith, e))), ((λ e. refl), tt))) f.0 f.1 f.2 f.4 in let w = At-within (server_conduct (confirm_out (step 0 0 0 ∷ step 1 0 0 ∷ []))).read f.0 1 f.3 in omega (arith, two, w)))
+
+-- an id is given again: the cancel's confirmation was read after so many messages
+added-each : (n : ℕ) (p : Sending) → (p ≡ part.Ids → ⊥) → MaySend p (sent_in (added_after n))
+added-each n part.Ids ne = absurd (ne refl)
+added-each n part.OnChannel ne = sends part.OnChannel (added_after n) (calls (added_after n).up) temp_there refl refl (all-on-sid (added_after n) (calls (added_after n).up) temp_there ((adding 0 9).message) (cancelling.message ∷ (adding 1 9).message ∷ []) 1 refl refl refl refl refl refl refl) tt
+added-each n part.Cancels ne = sends part.Cancels (added_after n) (calls (added_after n).up) temp_there refl refl (λ k m at e. each-at (λ (i : ℕ) (z : Fields). Is command.EventCancel z → (l : ℕ) × (add : Fields) × At (client_conduct (added_after n)).sent l add × Is command.EventAdd add × (l < i) × (add.p1 ≡ z.p1) × (add.p2 ≡ z.p2) × IsUncancelled (client_conduct (added_after n)) l i add) (client_conduct (added_after n)).sent (
+  (λ f. absurd (omega (arith, f))),
+  ((λ f. absurd (omega (arith, f))), ((λ f. (1, (adding 0 9).message, refl, refl, omega arith, refl, refl, λ i s after early. absurd (omega (arith, after, early)))), ((λ f. absurd (omega (arith, f))), tt))),
+) k m at e) tt
+added-each n part.Confirmations ne = sends part.Confirmations (added_after n) (calls (added_after n).up) temp_there refl refl (λ k m at e empty. each-at (λ (i : ℕ) (z : Fields). Is command.EventAdd z → ConfirmFor (added_after n) i z) (server_conduct (added_after n)).sent ((λ f. absurd (omega (arith, f))), ((λ f. (2, cancelling.message, refl, refl, refl, refl, refl)), tt)) k m at e) tt
+added-each n p ne = quiet-sends p (added_after n) (calls (added_after n).up) temp_there refl refl refl
+
+-- the confirmation frees the id that was cancelled
+added-free : IsFree (client_conduct (added_after 3)) 1 3
+added-free = (1, 3, (adding 0 9).message, cancel_reply cancelling.message, refl, refl, refl, omega arith, omega arith, inr (inr (inl (refl, inl (refl, refl, refl, λ u. u 2 cancelling.message (omega arith) (omega arith) refl refl refl refl)))))
+
+add-at : (l : ℕ) (r : Fields) → At (client_conduct (added_after 3)).sent l r → Is command.EventAdd r → (l ≡ 1) ⊎ (l ≡ 3)
+add-at l r at is = each-at (λ (i : ℕ) (z : Fields). Is command.EventAdd z → (i ≡ 1) ⊎ (i ≡ 3)) (client_conduct (added_after 3)).sent ((λ f. absurd (omega (arith, f))), ((λ f. inl refl), ((λ f. absurd (omega (arith, f))), ((λ f. inr refl), tt)))) l r at is
+
+added-ids : (l k : ℕ) (r m : Fields) (a b : Id) → l < k → At (client_conduct (added_after 3)).sent l r → At (client_conduct (added_after 3)).sent k m → Gives r a → Gives m b → SameIndex a b → IsFree (client_conduct (added_after 3)) l k
+added-ids l k r m (SubId a) (SubId b) lt p q g h same = elim (add-at l r p g.0) [
+  | inl i ↦ elim (add-at k m q h.0) [
+    | inl j ↦ absurd (omega (arith, i, j, lt))
+    | inr j ↦ subst (λ (z : ℕ). IsFree (client_conduct (added_after 3)) z k) (sym i) (subst (λ (z : ℕ). IsFree (client_conduct (added_after 3)) 1 z) (sym j) added-free)
+  ]
+  | inr i ↦ elim (add-at k m q h.0) [
+    | inl j ↦ absurd (omega (arith, i, j, lt))
+    | inr j ↦ absurd (omega (arith, i, j, lt))
+  ]
+]
+added-ids l k r m (Cid a) (Cid b) lt p q g h same =
+    let create : (i : ℕ) (z : Fields) → At (client_conduct (added_after 3)).sent i z → Is command.CreateChannel z → i ≡ 0 =
+    λ i z at is. each-at (λ (i : ℕ) (z : Fields). Is command.CreateChannel z → i ≡ 0) (client_conduct (added_after 3)).sent ((λ f. refl), ((λ f. absurd (omega (arith, f))), ((λ f. absurd (omega (arith, f))), ((λ f. absurd (omega (arith, f))), tt)))) i z at is in
+    let j = create k m q h.0 in
+    absurd (omega (arith, j, lt))
+added-ids l k r m (Ioid a) b lt p q g h same =
+    absurd (each-at (λ (i : ℕ) (z : Fields). (Is command.ReadNotify z ⊎ Is command.WriteNotify z) → ⊥) (client_conduct (added_after 3)).sent (
+      (λ f. elim f [ inl e ↦ omega (arith, e) | inr e ↦ omega (arith, e) ]),
+      ((λ f. elim f [ inl e ↦ omega (arith, e) | inr e ↦ omega (arith, e) ]), ((λ f. elim f [ inl e ↦ omega (arith, e) | inr e ↦ omega (arith, e) ]), ((λ f. elim f [ inl e ↦ omega (arith, e) | inr e ↦ omega (arith, e) ]), tt))),
+    ) l r p g.0)
+added-ids l k r m (Cid a) (Ioid b) lt p q g h same = absurd same
+added-ids l k r m (Cid a) (SubId b) lt p q g h same = absurd same
+added-ids l k r m (SubId a) (Cid b) lt p q g h same = absurd same
+added-ids l k r m (SubId a) (Ioid b) lt p q g h same = absurd same
+
+added-legal-each : (p : Sending) → MaySend p (sent_in (added_after 3))
+added-legal-each part.Ids = sends part.Ids (added_after 3) (calls (added_after 3).up) temp_there refl refl added-ids tt
+added-legal-each p = added-each 3 p (λ e. cc)
+
+pub added-legal : Legal (sent_in (added_after 3))
+added-legal = all-legal _ added-legal-each
+
+-- a confirmation frees no subscription id that was not cancelled by then
+not-confirmed : (e : Conduct) (b : ℕ) (r m : Fields) → r.command ≡ 1 → m.command ≡ 1 → b ≡ 2 → Frees e 1 b r m → ⊥
+not-confirmed e b r m add says two h =
+    elim h [
+      | inl a ↦ (let f = a.0 in omega (arith, f, add))
+      | inr (inl a) ↦ elim a.0 [
+        | inl f ↦ omega (arith, f, add)
+        | inr f ↦ omega (arith, f, add)
+      ]
+      | inr (inr (inl a)) ↦ elim a.1 [
+        | inl d ↦ d.3 (λ i s after early. absurd (omega (arith, after, early, two)))
+        | inr d ↦ (let f = d.0.0 in omega (arith, f, says))
+      ]
+      | inr (inr (inr a)) ↦ (let f = a.4 in omega (arith, f, says))
+    ]
+
+pub added-too-soon : SendsWrong part.Ids (sent_in (added_after 2))
+added-too-soon = (
+  added-each 2,
+  λ h.
+      (let e = client_conduct (added_after 2) in
+      let f = its-sent part.Ids (added_after 2) (calls (added_after 2).up) temp_there refl refl h.0 1 3 (adding 0 9).message (adding 1 9).message (SubId 9) (SubId 9) (omega arith) refl refl (refl, refl) (refl, refl) refl in
+      let add : f.2.command ≡ 1 = ap (λ (m : Fields). m.command) (sym (some_is (adding 0 9).message f.2 f.4)) in
+      let late = f.7 in
+      let says = each-at (λ (j : ℕ) (m : Fields). At (1 ∷ 2 ∷ []) j f.1 → (m.command ≡ 1) × (f.1 ≡ 2)) (client_conduct (added_after 2)).came ((λ at. absurd (let one = some_is 1 f.1 at in omega (arith, one, late))), ((λ at. (refl, sym (some_is 2 f.1 at))), tt)) f.0 f.3 f.5 f.6 in
+      not-confirmed e f.1 f.2 f.3 add says.0 says.1 f.9),
+)
+
+-- a CID is given again: the reply to the clear was read after so many messages
+asked-on : (n : ℕ) → SentSo part.OnChannel 0 (asked_after n) (calls (asked_after n).up) temp_there
+asked-on n = λ k r at on. each-at (λ (i : ℕ) (z : Fields). IsOnChannel z → (p q cid : ℕ) × HasChannel (client_conduct (asked_after n)) i p q cid (sid_in z)
+    × ((Is command.ClearChannel z × (z.p2 ≡ cid)) ⊎ ((Is command.ClearChannel z → ⊥) × ((l : ℕ) (d : Fields) → q < l → ReadsBetween (client_conduct (asked_after n)) p i l d → IsDisconnect cid d → ⊥)))) (client_conduct (asked_after n)).sent (
+      (λ f. absurd (clash (on-channel-so creating.message f) refl)),
+      (
+        (λ f. (0, 0, 1, (creating.message, created_told.message, refl, (refl, refl), (1, refl, refl, omega arith, omega arith), (refl, refl), refl, λ l d late early there clears. absurd (omega (arith, late, early))), inl (refl, refl))),
+        ((λ f. absurd (clash (on-channel-so (asked_with 1).message f) refl)), tt),
+      ),
+    ) k r at on
+
+asked-each : (n : ℕ) (p : Sending) → (p ≡ part.Ids → ⊥) → MaySend p (sent_in (asked_after n))
+asked-each n part.Ids ne = absurd (ne refl)
+asked-each n part.OnChannel ne = sends part.OnChannel (asked_after n) (calls (asked_after n).up) temp_there refl refl (asked-on n) tt
+asked-each n p ne = quiet-sends p (asked_after n) (calls (asked_after n).up) temp_there refl refl refl
+
+-- the reply frees the CID that was cleared
+asked-free : IsFree (client_conduct (asked_after 2)) 0 2
+asked-free = (1, 2, creating.message, cleared_reply clearing.message, refl, refl, refl, omega arith, omega arith, inl (refl, inr (refl, refl, (1, clearing.message, omega arith, omega arith, refl, refl, refl))))
+
+asked-ids : (l k : ℕ) (r m : Fields) (a b : Id) → l < k → At (client_conduct (asked_after 2)).sent l r → At (client_conduct (asked_after 2)).sent k m → Gives r a → Gives m b → SameIndex a b → IsFree (client_conduct (asked_after 2)) l k
+asked-ids l k r m (Cid a) (Cid b) lt p q g h same =
+    let create : (i : ℕ) (z : Fields) → At (client_conduct (asked_after 2)).sent i z → Is command.CreateChannel z → (i ≡ 0) ⊎ (i ≡ 2) =
+    λ i z at is. each-at (λ (i : ℕ) (z : Fields). Is command.CreateChannel z → (i ≡ 0) ⊎ (i ≡ 2)) (client_conduct (asked_after 2)).sent ((λ f. inl refl), ((λ f. absurd (omega (arith, f))), ((λ f. inr refl), tt))) i z at is in
+    elim (create l r p g.0) [
+      | inl i ↦ elim (create k m q h.0) [
+        | inl j ↦ absurd (omega (arith, i, j, lt))
+        | inr j ↦ subst (λ (z : ℕ). IsFree (client_conduct (asked_after 2)) z k) (sym i) (subst (λ (z : ℕ). IsFree (client_conduct (asked_after 2)) 0 z) (sym j) asked-free)
+      ]
+      | inr i ↦ elim (create k m q h.0) [
+        | inl j ↦ absurd (omega (arith, i, j, lt))
+        | inr j ↦ absurd (omega (arith, i, j, lt))
+      ]
+    ]
+asked-ids l k r m (Ioid a) b lt p q g h same =
+    absurd (each-at (λ (i : ℕ) (z : Fields). (Is command.ReadNotify z ⊎ Is command.WriteNotify z) → ⊥) (client_conduct (asked_after 2)).sent (
+      (λ f. elim f [ inl e ↦ omega (arith, e) | inr e ↦ omega (arith, e) ]),
+      ((λ f. elim f [ inl e ↦ omega (arith, e) | inr e ↦ omega (arith, e) ]), ((λ f. elim f [ inl e ↦ omega (arith, e) | inr e ↦ omega (arith, e) ]), tt)),
+    ) l r p g.0)
+asked-ids l k r m (SubId a) b lt p q g h same =
+    absurd (each-at (λ (i : ℕ) (z : Fields). Is command.EventAdd z → ⊥) (client_conduct (asked_after 2)).sent ((λ f. omega (arith, f)), ((λ f. omega (arith, f)), ((λ f. omega (arith, f)), tt))) l r p g.0)
+asked-ids l k r m (Cid a) (Ioid b) lt p q g h same = absurd same
+asked-ids l k r m (Cid a) (SubId b) lt p q g h same = absurd same
+
+asked-legal-each : (p : Sending) → MaySend p (sent_in (asked_after 2))
+asked-legal-each part.Ids = sends part.Ids (asked_after 2) (calls (asked_after 2).up) temp_there refl refl asked-ids tt
+asked-legal-each p = asked-each 2 p (λ e. cc)
+
+pub asked-legal : Legal (sent_in (asked_after 2))
+asked-legal = all-legal _ asked-legal-each
+
+-- a reply to a clear frees no CID that was not cleared by then
+not-cleared : (e : Conduct) (b : ℕ) (r m : Fields) → r.command ≡ 18 → m.command ≡ 12 → b ≡ 1 → Frees e 0 b r m → ⊥
+not-cleared e b r m creates says one h =
+    elim h [
+      | inl a ↦ elim a.1 [
+        | inl d ↦ (let f = d.0 in omega (arith, f, says))
+        | inr d ↦ (let after = d.2.2 in let early = d.2.3 in omega (arith, after, early, one))
+      ]
+      | inr (inl a) ↦ elim a.0 [
+        | inl f ↦ omega (arith, f, creates)
+        | inr f ↦ omega (arith, f, creates)
+      ]
+      | inr (inr (inl a)) ↦ (let f = a.0 in omega (arith, f, creates))
+      | inr (inr (inr a)) ↦ (let after = a.6.2 in let early = a.6.3 in omega (arith, after, early, one))
+    ]
+
+pub asked-too-soon : SendsWrong part.Ids (sent_in (asked_after 1))
+asked-too-soon = (
+  asked-each 1,
+  λ h.
+      (let e = client_conduct (asked_after 1) in
+      let f = its-sent part.Ids (asked_after 1) (calls (asked_after 1).up) temp_there refl refl h.0 0 2 creating.message (asked_with 1).message (Cid 1) (Cid 1) (omega arith) refl refl (refl, refl) (refl, refl) refl in
+      let creates : f.2.command ≡ 18 = ap (λ (m : Fields). m.command) (sym (some_is creating.message f.2 f.4)) in
+      first-reply e f.0 f.1 f.2 f.3 creates f.5 f.6 f.9),
+)
+  where
+    -- the creation's reply frees nothing, nor what was read then
+    first-reply : (e : Conduct) (j b : ℕ) (r m : Fields) → r.command ≡ 18 → At (created_told.message ∷ cleared_reply clearing.message ∷ []) j m → At (1 ∷ 1 ∷ []) j b → Frees e 0 b r m → ⊥
+    first-reply e j b r m creates at_m at_b frees = elim (two-at created_told.message (cleared_reply clearing.message) j m at_m) [
+      | inl first ↦
+          let says : m.command ≡ 18 = ap (λ (z : Fields). z.command) first.1 in
+          elim frees [
+            | inl a ↦ elim a.1 [
+              | inl d ↦ (let f = d.0 in omega (arith, f, says))
+              | inr d ↦ (let f = d.0 in omega (arith, f, says))
+            ]
+            | inr (inl a) ↦ elim a.0 [
+              | inl f ↦ omega (arith, f, creates)
+              | inr f ↦ omega (arith, f, creates)
+            ]
+            | inr (inr (inl a)) ↦ (let f = a.0 in omega (arith, f, creates))
+            | inr (inr (inr a)) ↦ (let f = a.4 in omega (arith, f, says))
+          ]
+      | inr second ↦
+          let one : b ≡ 1 = sym (some_is 1 b (subst (λ (k : ℕ). At (1 ∷ 1 ∷ []) k b) second.0 at_b)) in
+          not-cleared e b r m creates (ap (λ (z : Fields). z.command) second.1) one frees
+    ]
 
 gone-legal-each : (p : Sending) → MaySend p (sent_in (told_so (created_told ∷ disconnected ∷ [])))
 gone-legal-each part.Disconnects = sends part.Disconnects (told_so (created_told ∷ disconnected ∷ [])) (calls (told_so (created_told ∷ disconnected ∷ [])).up) temp_there refl refl (λ k m at e. each-at (λ (i : ℕ) (z : Fields). Is command.ServerDisconnect z → (a sid : ℕ) × IsOpenAt (server_conduct (told_so (created_told ∷ disconnected ∷ []))) i a z.p1 sid × IsConnected (server_conduct (told_so (created_told ∷ disconnected ∷ []))) a i z.p1) (server_conduct (told_so (created_told ∷ disconnected ∷ []))).sent ((λ f. absurd (omega (arith, f))), ((λ f. (0, 5, (created_told.message, refl, (refl, refl), refl, omega arith, λ j r reads clears. none (is 12) (server_conduct (told_so (created_told ∷ disconnected ∷ []))).came refl j r reads.1 (is-so 12 r clears.0)), λ l m a b. absurd (omega (arith, a, b)))), tt)) k m at e) tt

@@ -122,11 +122,11 @@ ids-at l r (Ioid n) at gives =
     ) l r at gives.0)
 
 cid-free : IsFree cl 0 3
-cid-free = (4, 3, creating.message, clearing.message, refl, refl, refl, omega arith, omega arith, inl (refl, inr (refl, refl)))
+cid-free = (4, 3, creating.message, clearing.message, refl, refl, refl, omega arith, omega arith, inl (refl, inr (refl, refl, (2, clearing.message, omega arith, omega arith, refl, refl, refl))))
 
 subscription-free : IsFree cl 1 4
 subscription-free =
-    (4, 3, (adding 0 9).message, clearing.message, refl, refl, refl, omega arith, omega arith, inr (inr (inr (0, 1, 1, first-channel 1 (omega arith) (omega arith), refl, refl))))
+    (4, 3, (adding 0 9).message, clearing.message, refl, refl, refl, omega arith, omega arith, inr (inr (inr (0, 1, 1, first-channel 1 (omega arith) (omega arith), refl, refl, (2, clearing.message, omega arith, omega arith, refl, refl, refl)))))
 
 ids-free : (l k : ℕ) (r m : Fields) (a b : Id) → l < k → At cl.sent l r → At cl.sent k m → Gives r a → Gives m b → SameIndex a b → IsFree cl l k
 ids-free l k r m a b lt p q g h same =

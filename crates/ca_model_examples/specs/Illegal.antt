@@ -4,8 +4,8 @@ use Rattle.std.specs.Prelude.{ℕ, Bool, false, List, [], ◌∷◌, None, Some}
 use Rattle.std.specs.List.{flat_map}
 use Rattle.ca_text.specs.declared.command.Command.TheVariants as command
 use Rattle.ca_text.specs.Status.{bad_channel}
-use Rattle.ca_wire.specs.Messages.{cancel_reply, create_request, created_reply, error_reply}
-use Rattle.ca_wire.specs.Messages.{event_add_request, put_request, rights_reply}
+use Rattle.ca_wire.specs.Messages.{cancel_reply, cleared_reply, create_request, created_reply}
+use Rattle.ca_wire.specs.Messages.{error_reply, event_add_request, put_request, rights_reply}
 use Rattle.ca_model.specs.History.{Cancel, Request, Read, Write, Create, Subscribe, Intent, On}
 use Rattle.ca_model.specs.History.{OfCircuit, Sent, Told}
 use Rattle.ca_model.specs.History.{Step, Circuit, Line, Called, Opened, World}
@@ -55,6 +55,22 @@ reads_out ioid =
     circuit (creating ∷ reading 0 7 ∷ reading 1 ioid ∷ [])
     (created_told ∷ reply 0 (rights_reply (create_request 1 temp_name) 1) ∷ []) []
     (created_read ∷ step 2 0 0 ∷ [])
+
+-- A subscription is cancelled, another goes out under its id, and the confirmation was read
+-- after so many messages.
+abbrev pub added_after : ℕ → Circuit
+added_after sent =
+    circuit (creating ∷ adding 0 9 ∷ cancelling ∷ adding 1 9 ∷ [])
+    (created_told ∷ reply 2 (cancel_reply cancelling.message) ∷ [])
+    (step 0 0 0 ∷ step 1 0 0 ∷ step 1 0 0 ∷ []) (created_read ∷ step sent 0 0 ∷ [])
+
+-- The channel is cleared, another is asked for with its CID, and the reply to the clear was read
+-- after so many messages.
+abbrev pub asked_after : ℕ → Circuit
+asked_after sent =
+    circuit (creating ∷ clearing ∷ asked_with 1 ∷ [])
+    (created_told ∷ reply 1 (cleared_reply clearing.message) ∷ []) []
+    (created_read ∷ step sent 0 0 ∷ [])
 
 -- Two channels are created, the other one under this SID.
 abbrev pub both_created : ℕ → Circuit

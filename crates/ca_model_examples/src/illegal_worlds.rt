@@ -16,7 +16,8 @@ ghost use Rattle.ca_model_examples.specs.Illegal.{called_in, calls, cancel_calle
 ghost use Rattle.ca_model_examples.specs.Illegal.{confirm_out, created_read, write_called};
 ghost use Rattle.ca_model_examples.specs.Illegal.{goes_out, live_again, read_out, reads_out, alone};
 ghost use Rattle.ca_model_examples.specs.Illegal.{writing, unasked, sent_in, subscribed_in};
-ghost use Rattle.ca_model_examples.specs.Illegal.{refused_out, two_circuits};
+ghost use Rattle.ca_model_examples.specs.Illegal.{added_after, asked_after, refused_out};
+ghost use Rattle.ca_model_examples.specs.Illegal.{two_circuits};
 ghost use Rattle.ca_model_examples.specs.Illegal.{told_closed, told_so, uncalled_in, update_out};
 
 /// The parts are those of what is legal, and no more.
@@ -26,7 +27,8 @@ pub fn the_parts_are_all_that_is_legal()
 {}
 
 /// A read goes out once it was called and the creation's reply was read; a cancel is for an
-/// EVENT_ADD; and two ids of a kind that are in use have two indexes.
+/// EVENT_ADD; and two ids of a kind that are in use have two indexes. A confirmation that was read
+/// before the cancel was sent frees no id, nor does the reply to a clear that was not sent by then.
 pub fn what_a_client_may_send()
     ensures read { Legal (sent_in (read_out (created_read ∷ []))) }
     ensures read_uncalled { SendsWrong HasCall (uncalled_in (read_out (created_read ∷ []))) }
@@ -43,6 +45,10 @@ pub fn what_a_client_may_send()
     ensures reads { Legal (sent_in (reads_out 8)) }
     ensures id_reused { SendsWrong Ids (sent_in (reads_out 7)) }
     ensures id_shared { SendsWrong Ids (sent_in (both_asked 1)) }
+    ensures cancelled { Legal (sent_in (added_after 3)) }
+    ensures confirmed_before { SendsWrong Ids (sent_in (added_after 2)) }
+    ensures cleared { Legal (sent_in (asked_after 2)) }
+    ensures cleared_before { SendsWrong Ids (sent_in (asked_after 1)) }
 {}
 
 /// What goes out for a channel was called: a write with its value, a cancel, a clear, unless it
