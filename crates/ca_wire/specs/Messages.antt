@@ -18,9 +18,6 @@ use Rattle.ca_wire.specs.Message.{header_of}
 use Rattle.ca_wire.specs.declared.scalar_message.ScalarMessage.{ScalarMessage}
 use Rattle.ca_wire.specs.declared.done.Done.{Done}
 use Rattle.ca_wire.specs.declared.requests.Wanted.{Wanted}
-use Rattle.ca_wire.specs.declared.requests.ChannelIds.{ChannelIds}
-use Rattle.ca_wire.specs.declared.replies.Created.{Created}
-use Rattle.ca_wire.specs.declared.replies.Answered.{Answered}
 
 -- a command alone: ECHO, EVENTS_OFF, EVENTS_ON ("CA_PROTO_ECHO", "CA_PROTO_EVENTS_OFF",
 -- "CA_PROTO_EVENTS_ON")
@@ -234,22 +231,3 @@ mask_in m = slice_index_or m.payload 12 0 * 256 + slice_index_or m.payload 13 0
 -- what a request on a channel names
 abbrev pub wanted_in : Fields → Wanted
 wanted_in m = record { sid = m.p1; id = m.p2; data_type = m.data_type; count = m.count }
-
--- the ids in a CLEAR_CHANNEL and in its reply ("CA_PROTO_CLEAR_CHANNEL")
-abbrev pub ids_in : Fields → ChannelIds
-ids_in m = record { sid = m.p1; cid = m.p2 }
-
--- the channel in a reply to a CREATE_CHAN ("CA_PROTO_CREATE_CHAN")
-abbrev pub created_in : Fields → Created
-created_in m = record { cid = m.p1; sid = m.p2; data_type = m.data_type; count = m.count }
-
--- what a READ_NOTIFY or WRITE_NOTIFY that is a reply, or an update, answers
--- ("CA_PROTO_READ_NOTIFY", "CA_PROTO_EVENT_ADD")
-abbrev pub answer_in : Fields → Answered
-answer_in m =
-    record {
-      id = m.p2;
-      status = record { number = m.p1 };
-      data_type = m.data_type;
-      count = m.count;
-    }

@@ -5,8 +5,8 @@ ghost use Rattle.ca_text.specs.declared.command.Command.TheVariants as command;
 ghost use Rattle.ca_text.specs.Limits.{minor_version};
 ghost use Rattle.ca_wire.specs.Header.{number16};
 ghost use Rattle.ca_wire.specs.Message.{header_of};
-ghost use Rattle.ca_wire.specs.Messages.{answer_in, cancel_reply, cleared_reply, created_in};
-ghost use Rattle.ca_wire.specs.Messages.{created_reply, disconnect, failed_reply, no_cid};
+ghost use Rattle.ca_wire.specs.Messages.{cancel_reply, created_reply, disconnect, failed_reply};
+ghost use Rattle.ca_wire.specs.Messages.{no_cid};
 ghost use Rattle.ca_wire.specs.Messages.{not_found_reply, on_channel, read_request, rights_reply};
 ghost use Rattle.ca_wire.specs.Messages.{search_reply, status_reply, update, value_reply};
 ghost use Rattle.ca_wire.specs.Messages.{version_reply};
@@ -16,18 +16,9 @@ use crate::header::Header;
 use crate::ids::{Cid, Ioid, Sid};
 use crate::message::Message;
 use crate::reading::{Head, head_at};
-use crate::requests::{ChannelIds, Wanted, clear_request};
+use crate::requests::Wanted;
 use ca_text::{Command, MINOR_VERSION, Status};
 use std::alloc::{AllocError, Global};
-
-/// A channel as it was created: its ids, its native type and its greatest count.
-#[derive(Clone, Copy, Debug, PartialEq, Eq)]
-pub struct Created {
-    pub cid: Cid,
-    pub sid: Sid,
-    pub data_type: u16,
-    pub count: u32,
-}
 
 /// What an answer or an update is about, how it went, and which elements it has.
 #[derive(Clone, Copy, Debug, PartialEq, Eq)]
@@ -106,14 +97,6 @@ pub fn failed_reply(alloc: Global, request: &Message) -> Message
     ensures { result ≡ failed_reply request.now }
 {
     Message::with_no_payload(alloc, Command::CreateChannelFail, 0, 0, request.p1(), 0)
-}
-
-/// CLEAR_CHANNEL, answered.
-pub fn cleared_reply(alloc: Global, request: &Message) -> Message
-    ensures { result ≡ cleared_reply request.now }
-{
-    let ChannelIds { sid, cid } = request.channel_ids();
-    clear_request(alloc, sid, cid)
 }
 
 /// READ_NOTIFY of this, answered, with no image, which is to be made in its place.
@@ -201,39 +184,6 @@ pub fn disconnect(alloc: Global, cid: Cid) -> Message
 }
 
 // ---- what they say
-
-impl Message {
-    /// The access rights in an ACCESS_RIGHTS: the bit 1 to read, the bit 2 to write.
-    pub fn rights(&self) -> u32
-        ensures { result ≡ self.now.p2 }
-    {
-        self.p2()
-    }
-
-    /// The channel in a reply to a CREATE_CHAN.
-    pub fn created(&self) -> Created
-        ensures { result ≡ created_in self.now }
-    {
-        Created {
-            cid: Cid::new(self.p1()),
-            sid: Sid::new(self.p2()),
-            data_type: self.data_type(),
-            count: self.count(),
-        }
-    }
-
-    /// What a READ_NOTIFY or WRITE_NOTIFY that is a reply, or an update, answers.
-    pub fn answered(&self) -> Answered
-        ensures { result ≡ answer_in self.now }
-    {
-        Answered {
-            id: Ioid::new(self.p2()),
-            status: Status { number: self.p1() },
-            data_type: self.data_type(),
-            count: self.count(),
-        }
-    }
-}
 
 /// The header that an ERROR with this payload quotes, if it is complete.
 pub fn quoted(payload: &[u8]) -> Option<Head>

@@ -6,9 +6,9 @@ ghost use Rattle.ca_text.specs.Limits.{payload_limit};
 ghost use Rattle.ca_wire.specs.Message.{header_of};
 ghost use Rattle.ca_wire.specs.Messages.{header_only, clear_request, create_request};
 ghost use Rattle.ca_wire.specs.Messages.{event_add_request};
-ghost use Rattle.ca_wire.specs.Messages.{event_cancel_request, ids_in, mask_payload, name_request};
+ghost use Rattle.ca_wire.specs.Messages.{event_cancel_request, mask_payload, name_request};
 ghost use Rattle.ca_wire.specs.Messages.{on_channel, put_request, read_request, search_request};
-ghost use Rattle.ca_wire.specs.Messages.{text_in, version_request, wanted_in};
+ghost use Rattle.ca_wire.specs.Messages.{text_in, version_request};
 
 use crate::header::Header;
 use crate::ids::{Cid, Ioid, Priority, Sid};
@@ -27,13 +27,6 @@ pub struct Wanted {
     pub id: Ioid,
     pub data_type: u16,
     pub count: u32,
-}
-
-/// The two ids of a channel.
-#[derive(Clone, Copy, Debug, PartialEq, Eq)]
-pub struct ChannelIds {
-    pub sid: Sid,
-    pub cid: Cid,
 }
 
 // ---- how they are made. One without a payload does not allocate.
@@ -161,29 +154,6 @@ pub fn event_cancel_request(alloc: Global, wanted: Wanted) -> Message
 // ---- what they say
 
 impl Message {
-    /// The channel, the request or subscription, the type and the count that it names: READ_NOTIFY,
-    /// WRITE, WRITE_NOTIFY, EVENT_ADD or EVENT_CANCEL.
-    pub fn wanted(&self) -> Wanted
-        ensures { result ≡ wanted_in self.now }
-    {
-        Wanted {
-            sid: Sid::new(self.p1()),
-            id: Ioid::new(self.p2()),
-            data_type: self.data_type(),
-            count: self.count(),
-        }
-    }
-
-    /// The ids of the channel in a CLEAR_CHANNEL, or in its reply.
-    pub fn channel_ids(&self) -> ChannelIds
-        ensures { result ≡ ids_in self.now }
-    {
-        ChannelIds {
-            sid: Sid::new(self.p1()),
-            cid: Cid::new(self.p2()),
-        }
-    }
-
     /// The text in a CLIENT_NAME, HOST_NAME, SEARCH or CREATE_CHAN: up to the first zero of the
     /// payload, or all of it.
     pub fn text(&self) -> &[u8]
