@@ -27,13 +27,13 @@ pub use message::{Message, message_at, spell, spelled_size};
 pub use pipe::Pipe;
 pub use reading::{Head, One, read_one};
 pub use replies::{
-    Answered, cancel_reply, created_reply, disconnect, failed_reply,
-    no_cid, not_found_reply, put_status, quoted, read_head, read_status, rights_reply,
-    search_reply, update_head, version_header, version_reply,
+    Answered, cancel_reply, created_reply, disconnect, failed_reply, no_cid, not_found_reply,
+    put_status, quoted, read_head, read_status, rights_reply, search_reply, update_head,
+    version_header, version_reply,
 };
 pub use requests::{
-    Wanted, clear_request, create_request, event_add_request, event_cancel_request,
-    header_only, name_request, put_head, put_request, read_request, search_header, search_request,
+    Wanted, clear_request, create_request, event_add_request, event_cancel_request, header_only,
+    name_request, put_head, put_request, read_request, search_header, search_request,
     version_request,
 };
 pub use scalar_message::ScalarMessage;

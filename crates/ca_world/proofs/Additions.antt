@@ -23,7 +23,7 @@ use Rattle.ca_server_core.proofs.Ordered.{named-some}
 use Rattle.ca_world_data.specs.declared.client.ClientSide.{ClientSide}
 use Rattle.ca_world_data.specs.declared.joined.Joined.{Joined}
 use Rattle.ca_world_data.specs.declared.server.ServerSide.{ServerSide}
-use Rattle.ca_world_data.specs.Does.{Does}
+use Rattle.ca_world_data.specs.Does.{Does, MayLack}
 use Rattle.ca_world_data.specs.Seen.{client_of, joined_of, server_of}
 use Rattle.ca_world_data.proofs.Worlds.{set-map, set-same, world_of}
 use Rattle.ca_world.specs.Adding.{AddsAt, AreInOrder, AreLike, Settles, StandsBehind}
@@ -226,8 +226,8 @@ module _ (cs : List ClientSide) (ss : List ServerSide) (ks : List Joined) (cl : 
     moment = m;
   }
 
-  pub add-does : (y' : ServerSide) (sl' : List (List Entry)) (r : Result (Unit {0}) Refusal) → AddsAt s (server_of y) sl r (server_of y') sl' → Does (world_of cs ss ks cl sl m) (Add i s) r (world_of cs (slice_set ss i y') ks cl sl' m)
-  add-does y' sl' (Ok u) (core, behind, inl (adds, is_y, is_l)) = (
+  pub add-does : MayLack (world_of cs ss ks cl sl m) (Add i s) → (y' : ServerSide) (sl' : List (List Entry)) (r : Result (Unit {0}) Refusal) → AddsAt s (server_of y) sl r (server_of y') sl' → Does (world_of cs ss ks cl sl m) (Add i s) r (world_of cs (slice_set ss i y') ks cl sl' m)
+  add-does may y' sl' (Ok u) (core, behind, inl (adds, is_y, is_l)) = (
     there,
     (
       core,
@@ -245,9 +245,9 @@ module _ (cs : List ClientSide) (ss : List ServerSide) (ks : List Joined) (cl : 
       ),
     ),
   )
-  add-does y' sl' (Ok u) (core, behind, inr (e, other, adds, is_y, is_l)) = (there, (core, behind, inr (e, other, adds, stay y' sl' is_y is_l)))
-  add-does y' sl' (Err OutOfMemory) (is_y, is_l) = (there, stay y' sl' is_y is_l)
-  add-does y' sl' (Err _) d = absurd d
+  add-does may y' sl' (Ok u) (core, behind, inr (e, other, adds, is_y, is_l)) = (there, (core, behind, inr (e, other, adds, stay y' sl' is_y is_l)))
+  add-does may y' sl' (Err OutOfMemory) (is_y, is_l) = (may, stay y' sl' is_y is_l)
+  add-does may y' sl' (Err _) d = absurd d
 
 -- no server
 pub add-none : (cs : List ClientSide) (ss : List ServerSide) (ks : List Joined) (cl : List (List Line)) (sl : List (List Entry)) (m i : ℕ) (s : RecordState) → length ss ≤ i → CanBe (world_of cs ss ks cl sl m) (Add i s) → ⊥

@@ -67,12 +67,12 @@ module _ (cs : List ClientSide) (ss : List ServerSide) (ks : List Joined) (cl : 
           ),
         )
     apart-there j' x' cl' (Err OutOfMemory) d = (
-      there,
+      (there, d.0),
       (λ t. record {
-        clients = (set-map client_of cs j.client x' ∙ ap (slice_set (map client_of cs) j.client) d.0 ∙ set-same (map client_of cs) j.client (client_of x) (At-map client_of cs j.client x client)) t;
+        clients = (set-map client_of cs j.client x' ∙ ap (slice_set (map client_of cs) j.client) d.1 ∙ set-same (map client_of cs) j.client (client_of x) (At-map client_of cs j.client x client)) t;
         servers = map server_of ss;
-        circuits = (set-map joined_of ks k j' ∙ ap (slice_set (map joined_of ks) k) d.1 ∙ set-same (map joined_of ks) k (joined_of j) (At-map joined_of ks k j at)) t;
-        client_logs = d.2 t;
+        circuits = (set-map joined_of ks k j' ∙ ap (slice_set (map joined_of ks) k) d.2 ∙ set-same (map joined_of ks) k (joined_of j) (At-map joined_of ks k j at)) t;
+        client_logs = d.3 t;
         server_logs = sl;
         moment = m;
       }),
@@ -112,5 +112,5 @@ pub apart-keeps : (x x' : model.ClientSide) (j j' : model.Joined) (cl cl' : List
 apart-keeps x x' j j' cl cl' (Ok u) d =
     subst (λ (z : model.Joined). KeepsEnds j z) (sym d.4)
     (record { client = refl; server = refl; at_client = refl; at_server = refl; closes = λ on. absurd cc; stops = λ on. on })
-apart-keeps x x' j j' cl cl' (Err OutOfMemory) d = ends-stay j j' d.1
+apart-keeps x x' j j' cl cl' (Err OutOfMemory) d = ends-stay j j' d.2
 apart-keeps x x' j j' cl cl' (Err _) d = absurd d

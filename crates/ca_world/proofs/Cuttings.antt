@@ -249,7 +249,7 @@ module _ (cs : List ClientSide) (ss : List ServerSide) (ks : List Joined) (cl : 
           },
         )
     cut-there j' y' sl' (Err OutOfMemory) d =
-        (there, (λ t. world_of cs (slice_set ss j.server (d.0 t)) (slice_set ks k (d.1 t)) cl (d.2 t) m) ∙ (λ t. world_of cs (set-same ss j.server y server t) (set-same ks k j at t) cl sl m))
+        ((there, λ none. d.0 (sym (told-all k y.records.items) ∙ none)), (λ t. world_of cs (slice_set ss j.server (d.1 t)) (slice_set ks k (d.2 t)) cl (d.3 t) m) ∙ (λ t. world_of cs (set-same ss j.server y server t) (set-same ks k j at t) cl sl m))
     cut-there j' y' sl' (Err _) d = absurd d
 
 -- ---- by the ends that were found
@@ -288,5 +288,5 @@ cut-keeps k y y' j j' sl sl' (Ok u) d = (
   subst (λ (z : model.Joined). KeepsEnds (joined_of j) z) (sym d.2)
       (record { client = refl; server = refl; at_client = refl; at_server = refl; closes = λ on. on; stops = λ on. absurd cc }),
 )
-cut-keeps k y y' j j' sl sl' (Err OutOfMemory) d = (ap (λ (z : ServerSide). z.circuits.items) d.0, ends-stay (joined_of j) (joined_of j') (ap joined_of d.1))
+cut-keeps k y y' j j' sl sl' (Err OutOfMemory) d = (ap (λ (z : ServerSide). z.circuits.items) d.1, ends-stay (joined_of j) (joined_of j') (ap joined_of d.2))
 cut-keeps k y y' j j' sl sl' (Err _) d = absurd d

@@ -1,6 +1,6 @@
 -- Bytes reach a client, from what its parts became.
 use Rattle.std.proofs.Common.{◌≡◌, ℕ, zero, suc, ◌≤◌, inl, inr, Bool, true, false, List, [], ◌∷◌, Option, Some, None, Result, Ok, Err, length, nat_lt, take, drop, refl, sym, ap, subst, ◌∙◌}
-use Rattle.std.specs.Prelude.{map, option_and_then, option_to_list, slice_set}
+use Rattle.std.specs.Prelude.{is_none, map, option_and_then, option_to_list, slice_set}
 use Rattle.std.proofs.lemmas.List.{append-nil}
 use Rattle.ca_arena.specs.declared.handle.Handle.{Handle}
 use Rattle.ca_ids.specs.Table.{under}
@@ -22,6 +22,7 @@ use Rattle.ca_model.specs.Events.{Down}
 use Rattle.ca_model.specs.Runs.{CanBe, HasClientEnd}
 use Rattle.ca_model.specs.World.{Names, grown, with_circuit, with_server}
 use Rattle.ca_model.specs.World as model
+use Rattle.ca_laws_parts.specs.Clients.{ClientsStand}
 use Rattle.ca_world_data.specs.declared.client.ClientSide.{ClientSide}
 use Rattle.ca_world_data.specs.declared.ends.Ends.{Ends}
 use Rattle.ca_world_data.specs.declared.joined.Joined.{Joined}
@@ -101,7 +102,7 @@ module _ (cs : List ClientSide) (ss : List ServerSide) (ks : List Joined) (cl : 
       let on : j.lists.client_open ≡ true = sym (ap (λ (z : model.Joined). z.lists.client_open) is) ∙ can.0.is_open in
       cc
 
-  module _ (k n : ℕ) (j : Joined) (x : ClientSide) (y : ServerSide) (at : At ks k j) (client : At cs j.client x) (server : At ss j.server y) (receives : j.lists.client_open ≡ true) (numbers : List ℕ) (numbered : AreNumbered numbers (map joined_of ks) j.client) where
+  module _ (k n : ℕ) (j : Joined) (x : ClientSide) (y : ServerSide) (at : At ks k j) (client : At cs j.client x) (server : At ss j.server y) (receives : j.lists.client_open ≡ true) (linked : is_none (connection_at x.core j.at_client) ≡ false) (numbers : List ℕ) (numbered : AreNumbered numbers (map joined_of ks) j.client) where
     -- the end that receives
     abbrev there : HasClientEnd (world_of cs ss ks cl sl m) k
     there = record { j = joined_of j; x = client_of x; y = server_of y; joins = joins cs ss ks cl sl m k j x y at client server; is_open = receives }
@@ -151,7 +152,7 @@ module _ (cs : List ClientSide) (ss : List ServerSide) (ks : List Joined) (cl : 
     down-handed x' y' j' (Err OutOfMemory) on d =
         let bytes : List ℕ = output_of (under y.core.circuits j.at_server) in
         let waits : waiting_down (server_of y) (joined_of j) ≡ bytes = if-true j.lists.server_open bytes j.left_down on in
-        ((there, subst (λ (t : List ℕ). n ≤ length t) (sym waits) d.0), stay x' y' j' d.1 d.2 d.3)
+        (((there, subst (λ (t : List ℕ). n ≤ length t) (sym waits) d.0), subst (λ (t : List ℕ). ClientGives x.core j.at_client (take n t) (nat_lt n (length t)) (Err OutOfMemory) [] x.core) (sym waits) (d.1 linked)), stay x' y' j' d.2 d.3 d.4)
     down-handed x' y' j' (Err BadEvent) on d =
         let bytes : List ℕ = output_of (under y.core.circuits j.at_server) in
         let waits : waiting_down (server_of y) (joined_of j) ≡ bytes = if-true j.lists.server_open bytes j.left_down on in
@@ -191,7 +192,7 @@ module _ (cs : List ClientSide) (ss : List ServerSide) (ks : List Joined) (cl : 
         )
     down-left x' j' (Err OutOfMemory) off d =
         let waits : waiting_down (server_of y) (joined_of j) ≡ j.left_down = if-false j.lists.server_open (output_of (under y.core.circuits j.at_server)) j.left_down off in
-        ((there, subst (λ (t : List ℕ). n ≤ length t) (sym waits) d.0), (λ i. world_of (slice_set cs j.client x') (sym (set-same ss j.server y server) i) (slice_set ks k j') cl sl m) ∙ stay x' y j' d.1 refl d.2)
+        (((there, subst (λ (t : List ℕ). n ≤ length t) (sym waits) d.0), subst (λ (t : List ℕ). ClientGives x.core j.at_client (take n t) (nat_lt n (length t)) (Err OutOfMemory) [] x.core) (sym waits) (d.1 linked)), (λ i. world_of (slice_set cs j.client x') (sym (set-same ss j.server y server) i) (slice_set ks k j') cl sl m) ∙ stay x' y j' d.2 refl d.3)
     down-left x' j' (Err BadEvent) off d =
         let waits : waiting_down (server_of y) (joined_of j) ≡ j.left_down = if-false j.lists.server_open (output_of (under y.core.circuits j.at_server)) j.left_down off in
         (few (λ le. d.0 (subst (λ (t : List ℕ). n ≤ length t) waits le)), (λ i. world_of (slice_set cs j.client x') (sym (set-same ss j.server y server) i) (slice_set ks k j') cl sl m) ∙ stay x' y j' d.1 refl d.2)
@@ -203,24 +204,31 @@ module _ (cs : List ClientSide) (ss : List ServerSide) (ks : List Joined) (cl : 
   pub down-off : e.client_open ≡ false → CanBe (world_of cs ss ks cl sl m) (Down k n) → ⊥
   down-off off = down-ended cs ss ks cl sl m k n a.j a.at (sym (ap (λ (z : Ends). z.client_open) a.is) ∙ off)
 
-  pub down-by-server : (x x' : ClientSide) (y y' : ServerSide) (j j' : Joined) (r : Result (Unit {0}) Refusal) (numbers : List ℕ) → At ks k j → At cs e.client x → At ss e.server y → e.client_open ≡ true → e.server_open ≡ true → AreNumbered numbers (map joined_of ks) e.client → HandsDown x y j n r x' y' j'
+  -- an open end is connected
+  pub down-linked : (x : ClientSide) (j : Joined) → At ks k j → At cs e.client x → e.client_open ≡ true → ClientsStand (world_of cs ss ks cl sl m) → is_none (connection_at x.core j.at_client) ≡ false
+  down-linked x j at client on stands =
+      let is : e ≡ ends_of j = a.is ∙ ap ends_of (At-one ks k a.j j a.at at) in
+      let here : At cs j.client x = subst (λ (z : Ends). At cs z.client x) is client in
+      stands.connected k (joined_of j) (client_of x) (At-map joined_of ks k j at) (At-map client_of cs j.client x here) (sym (ap (λ (z : Ends). z.client_open) is) ∙ on)
+
+  pub down-by-server : (x x' : ClientSide) (y y' : ServerSide) (j j' : Joined) (r : Result (Unit {0}) Refusal) (numbers : List ℕ) → At ks k j → At cs e.client x → At ss e.server y → e.client_open ≡ true → e.server_open ≡ true → AreNumbered numbers (map joined_of ks) e.client → is_none (connection_at x.core j.at_client) ≡ false → HandsDown x y j n r x' y' j'
       → Does (world_of cs ss ks cl sl m) (Down k n) r (world_of (slice_set cs e.client x') (slice_set ss e.server y') (slice_set ks k j') cl sl m)
   down-by-server x x' y y' j j' r numbers at =
       let is : e ≡ ends_of j = a.is ∙ ap ends_of (At-one ks k a.j j a.at at) in
-      subst (λ (z : Ends). At cs z.client x → At ss z.server y → z.client_open ≡ true → z.server_open ≡ true → AreNumbered numbers (map joined_of ks) z.client → HandsDown x y j n r x' y' j' → Does (world_of cs ss ks cl sl m) (Down k n) r (world_of (slice_set cs z.client x') (slice_set ss z.server y') (slice_set ks k j') cl sl m))
+      subst (λ (z : Ends). At cs z.client x → At ss z.server y → z.client_open ≡ true → z.server_open ≡ true → AreNumbered numbers (map joined_of ks) z.client → is_none (connection_at x.core j.at_client) ≡ false → HandsDown x y j n r x' y' j' → Does (world_of cs ss ks cl sl m) (Down k n) r (world_of (slice_set cs z.client x') (slice_set ss z.server y') (slice_set ks k j') cl sl m))
       (sym is)
-      (λ client server on opened numbered d. down-handed cs ss ks cl sl m k n j x y at client server on numbers numbered x' y' j' r opened d)
+      (λ client server on opened numbered linked d. down-handed cs ss ks cl sl m k n j x y at client server on linked numbers numbered x' y' j' r opened d)
 
-  pub down-by-left : (x x' : ClientSide) (j j' : Joined) (r : Result (Unit {0}) Refusal) (numbers : List ℕ) → At ks k j → At cs e.client x → e.client_open ≡ true → e.server_open ≡ false → AreNumbered numbers (map joined_of ks) e.client → LeavesDown x j n r x' j'
+  pub down-by-left : (x x' : ClientSide) (j j' : Joined) (r : Result (Unit {0}) Refusal) (numbers : List ℕ) → At ks k j → At cs e.client x → e.client_open ≡ true → e.server_open ≡ false → AreNumbered numbers (map joined_of ks) e.client → is_none (connection_at x.core j.at_client) ≡ false → LeavesDown x j n r x' j'
       → Does (world_of cs ss ks cl sl m) (Down k n) r (world_of (slice_set cs e.client x') ss (slice_set ks k j') cl sl m)
   down-by-left x x' j j' r numbers at =
       let is_j : a.j ≡ j = At-one ks k a.j j a.at at in
       let is : e ≡ ends_of j = a.is ∙ ap ends_of is_j in
       let one = one-at ss a.j.server a.server in
       let server : At ss j.server one.0 = subst (λ (z : Joined). At ss z.server one.0) is_j one.1 in
-      subst (λ (z : Ends). At cs z.client x → z.client_open ≡ true → z.server_open ≡ false → AreNumbered numbers (map joined_of ks) z.client → LeavesDown x j n r x' j' → Does (world_of cs ss ks cl sl m) (Down k n) r (world_of (slice_set cs z.client x') ss (slice_set ks k j') cl sl m))
+      subst (λ (z : Ends). At cs z.client x → z.client_open ≡ true → z.server_open ≡ false → AreNumbered numbers (map joined_of ks) z.client → is_none (connection_at x.core j.at_client) ≡ false → LeavesDown x j n r x' j' → Does (world_of cs ss ks cl sl m) (Down k n) r (world_of (slice_set cs z.client x') ss (slice_set ks k j') cl sl m))
       (sym is)
-      (λ client on off numbered d. down-left cs ss ks cl sl m k n j x one.0 at client server on numbers numbered x' j' r off d)
+      (λ client on off numbered linked d. down-left cs ss ks cl sl m k n j x one.0 at client server on linked numbers numbered x' j' r off d)
 
 -- ---- what stays
 
@@ -232,12 +240,12 @@ said-keeps j j' now c s h g o p is =
 
 pub hands-keep : (x x' : ClientSide) (y y' : ServerSide) (j j' : Joined) (n : ℕ) (r : Result (Unit {0}) Refusal) → HandsDown x y j n r x' y' j' → (x'.circuits.items ≡ x.circuits.items) × (y'.circuits.items ≡ y.circuits.items) × KeepsEnds (joined_of j) (joined_of j')
 hands-keep x x' y y' j j' n (Ok u) d = (ap (λ (z : ClientSide). z.circuits.items) d.1.side, ap (λ (z : ServerSide). z.circuits.items) d.4, said-keeps j j' (with_said _ (joined_of j)) refl refl refl refl refl refl d.2)
-hands-keep x x' y y' j j' n (Err OutOfMemory) d = (ap (λ (z : ClientSide). z.circuits.items) d.1, ap (λ (z : ServerSide). z.circuits.items) d.2, ends-stay (joined_of j) (joined_of j') d.3)
+hands-keep x x' y y' j j' n (Err OutOfMemory) d = (ap (λ (z : ClientSide). z.circuits.items) d.2, ap (λ (z : ServerSide). z.circuits.items) d.3, ends-stay (joined_of j) (joined_of j') d.4)
 hands-keep x x' y y' j j' n (Err BadEvent) d = (ap (λ (z : ClientSide). z.circuits.items) d.1, ap (λ (z : ServerSide). z.circuits.items) d.2, ends-stay (joined_of j) (joined_of j') d.3)
 hands-keep x x' y y' j j' n (Err _) d = absurd d
 
 pub leaves-keep : (x x' : ClientSide) (j j' : Joined) (n : ℕ) (r : Result (Unit {0}) Refusal) → LeavesDown x j n r x' j' → (x'.circuits.items ≡ x.circuits.items) × KeepsEnds (joined_of j) (joined_of j')
 leaves-keep x x' j j' n (Ok u) d = (ap (λ (z : ClientSide). z.circuits.items) d.1.side, said-keeps j j' (record (with_said _ (joined_of j)) { left_down = drop n j.left_down }) refl refl refl refl refl refl d.2)
-leaves-keep x x' j j' n (Err OutOfMemory) d = (ap (λ (z : ClientSide). z.circuits.items) d.1, ends-stay (joined_of j) (joined_of j') d.2)
+leaves-keep x x' j j' n (Err OutOfMemory) d = (ap (λ (z : ClientSide). z.circuits.items) d.2, ends-stay (joined_of j) (joined_of j') d.3)
 leaves-keep x x' j j' n (Err BadEvent) d = (ap (λ (z : ClientSide). z.circuits.items) d.1, ends-stay (joined_of j) (joined_of j') d.2)
 leaves-keep x x' j j' n (Err _) d = absurd d

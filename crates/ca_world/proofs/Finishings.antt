@@ -1,6 +1,6 @@
 -- A record's busy put is finished at a server, from what its parts became.
 use Rattle.std.proofs.Common.{◌≡◌, ◌∙◌, ℕ, zero, suc, ◌+◌, ◌<◌, ◌≤◌, ◌==◌, ◌&&◌, inl, inr, Bool, true, false, List, [], ◌∷◌, ◌++◌, Option, Some, None, Result, Ok, Err, drop, length, refl, sym, ap, subst, arith}
-use Rattle.std.specs.Prelude.{OnOk, Vec, if◌then◌else◌, is_some, map, option_map, slice_get, slice_set, unwrap_or, vec_capacity, vec_len}
+use Rattle.std.specs.Prelude.{IsErrAnd, OnOk, Vec, if◌then◌else◌, is_some, map, option_map, slice_get, slice_set, unwrap_or, vec_capacity, vec_len}
 use Rattle.std.specs.declared.alloc.Global.{Global}
 use Rattle.std.specs.List.{fold}
 use Rattle.std.specs.Str.{bytes_eq}
@@ -561,6 +561,15 @@ pub none-busy : {A : Type 0} (f : A → Elements) (o : Option A) (y : Server) (n
 none-busy f None y name is has = sym is
 none-busy f (Some v) y name is has = absurd cc
 
+put-busy : (b : Put) (o : Option Put) → o ≡ Some b → o ≡ None → ⊥
+put-busy b o is none = cc
+
+-- a finish that lacks memory
+pub finish-lacking : (i : ℕ) (name : List ℕ) (y y' : ServerSide) (ks ks' : List model.Joined) (logs logs' : List (List history.Entry)) (r : Result (Unit {0}) Refusal) → IsErrAnd r (λ e. e ≡ OutOfMemory) → ((b : Put) × IsBusy y.core name b) → y' ≡ y → ks' ≡ ks → logs' ≡ logs → FinishesAt i name y ks logs r y' ks' logs'
+finish-lacking i name y y' ks ks' logs logs' (Ok u) err busy is_y is_k is_l = absurd err
+finish-lacking i name y y' ks ks' logs logs' (Err e) err busy is_y is_k is_l =
+    subst (λ (z : Refusal). FinishesAt i name y ks logs (Err z) y' ks' logs') (sym err) (busy, is_y, is_k, is_l)
+
 -- the record that was found is beside the core's
 pub found-beside : (y : ServerSide) (rs : List Held) (name : List ℕ) (r : Held) (b : Put) (busy : IsBusy y.core name b) → rs ≡ y.records.items → IsFound rs name (Some r) → IsBeside y.core (map record_of y.records.items) name busy.c (record_of r)
 found-beside y rs name r b busy same (place, at, is) =
@@ -674,7 +683,7 @@ module _ (cs : List ClientSide) (ss : List ServerSide) (ks : List Joined) (cl : 
     }),
   )
   finish-does y' ks' sl' (Ok u) (inr (e, refuses, is_y, is_k, is_l)) = (there, inr (e, refuses, stay y' ks' sl' is_y is_k is_l))
-  finish-does y' ks' sl' (Err OutOfMemory) (is_y, is_k, is_l) = (there, stay y' ks' sl' is_y is_k is_l)
+  finish-does y' ks' sl' (Err OutOfMemory) ((b, busy), is_y, is_k, is_l) = ((there, (busy.c, busy.named, put-busy b busy.c.busy busy.busy)), stay y' ks' sl' is_y is_k is_l)
   finish-does y' ks' sl' (Err _) d = absurd d
 
   -- circuits are found as before
@@ -698,7 +707,7 @@ module _ (cs : List ClientSide) (ss : List ServerSide) (ks : List Joined) (cl : 
       d.reports.circuits
       (indexed-map numbers (server_numbers ss) (replied_in d.p d.sent nexts) said (ending (ends_by i d.mid.core)) (ending-keeps (ends_by i d.mid.core)))
   finish-indexed numbers y' ks' sl' (Ok u) (inr (e, refuses, is_y, is_k, is_l)) h = indexed-still numbers y' ks' is_y is_k h
-  finish-indexed numbers y' ks' sl' (Err OutOfMemory) (is_y, is_k, is_l) h = indexed-still numbers y' ks' is_y is_k h
+  finish-indexed numbers y' ks' sl' (Err OutOfMemory) (busy, is_y, is_k, is_l) h = indexed-still numbers y' ks' is_y is_k h
   finish-indexed numbers y' ks' sl' (Err _) d h = absurd d
 
 -- no server

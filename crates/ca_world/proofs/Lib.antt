@@ -23,6 +23,8 @@ pub mod Staying
 pub mod Pumpings
 pub mod Partings
 pub mod Moments
+pub mod Rests
+pub mod Judgements
 pub mod ClientSteppings
 pub mod Postings
 pub mod Widths

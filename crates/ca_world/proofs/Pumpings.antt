@@ -196,7 +196,7 @@ module _ (cs : List ClientSide) (ss : List ServerSide) (ks : List Joined) (cl : 
         subst (λ (z : List (List Entry)). Happens w (Pump k) (world_of cs (slice_set ss j.server y') (slice_set ks k j') cl z m)) (sym logs) (rest-there j' y' until side)
     pump-there j' y' sl' (Ok u) (same, inr (left, new, until, closes, side, logs)) = over-there j' y' sl' left new until closes side logs
     pump-there j' y' sl' (Err OutOfMemory) d =
-        (there, (λ t. world_of cs (slice_set ss j.server (d.0 t)) (slice_set ks k (d.1 t)) cl (d.2 t) m) ∙ (λ t. world_of cs (set-same ss j.server y server t) (set-same ks k j at t) cl sl m))
+        ((there, λ none. d.0 (sym (told-all k y.records.items) ∙ none)), (λ t. world_of cs (slice_set ss j.server (d.1 t)) (slice_set ks k (d.2 t)) cl (d.3 t) m) ∙ (λ t. world_of cs (set-same ss j.server y server t) (set-same ks k j at t) cl sl m))
     pump-there j' y' sl' (Err _) d = absurd d
 
 -- ---- by the ends that were found
@@ -232,5 +232,5 @@ pump-keeps k y y' j j' sl sl' (Ok u) (same, inr (left, new, (p, more, left_is, i
       subst (λ (z : model.Joined). KeepsEnds (joined_of j) z) (sym closes)
           (record { client = n.client; server = n.server; at_client = n.at_client; at_server = n.at_server; closes = n.closes; stops = λ on. absurd cc }),
     )
-pump-keeps k y y' j j' sl sl' (Err OutOfMemory) d = (ap (λ (z : ServerSide). z.circuits.items) d.0, ends-stay (joined_of j) (joined_of j') (ap joined_of d.1))
+pump-keeps k y y' j j' sl sl' (Err OutOfMemory) d = (ap (λ (z : ServerSide). z.circuits.items) d.1, ends-stay (joined_of j) (joined_of j') (ap joined_of d.2))
 pump-keeps k y y' j j' sl sl' (Err _) d = absurd d

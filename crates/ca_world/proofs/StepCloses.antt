@@ -24,6 +24,7 @@ use Rattle.ca_world.specs.declared.server_step.SteppingEnd.{SteppingEnd}
 use Rattle.ca_world.specs.ServerStepping.{StepsAt}
 use Rattle.ca_world.specs.StepParts.{IsAheadOf, MayBegin, MayStep, StepsServer}
 use Rattle.ca_world.proofs.Downward.{at-set}
+use Rattle.ca_world.proofs.Rests.{lacked}
 
 -- ---- an end that closed
 
@@ -48,6 +49,24 @@ lacks-error (Err x) h = ap (λ (y : Refusal). Err y) h
 pub lacks-kept : (k : ℕ) (y y' : ServerSide) (ks ks' : List model.Joined) (logs logs' : List (List Entry)) (r : Result (Unit {0}) Refusal) → IsErrAnd r (λ x. x ≡ OutOfMemory) → server_of y' ≡ server_of y → y'.circuits.items ≡ y.circuits.items → ks' ≡ ks → logs' ≡ logs → StepsServer k y ks logs r y' ks' logs'
 lacks-kept k y y' ks ks' logs logs' r err side numbers circuits logged =
     subst (λ (z : Result (Unit {0}) Refusal). StepsServer k y ks logs z y' ks' logs') (sym (lacks-error r err)) (side, numbers, circuits, logged)
+
+-- there are as many circuits as before
+pub lacked-long : (k : ℕ) (y y' : ServerSide) (ks next : List Joined) (logs logs' : List (List Entry)) (e : Refusal) → StepsServer k y (map joined_of ks) logs (Err e) y' (map joined_of next) logs' → length next ≡ length ks
+lacked-long k y y' ks next logs logs' e did =
+    sym (length-map next joined_of)
+    ∙ ap (λ (js : List model.Joined). length js) (lacked k y y' (map joined_of ks) (map joined_of next) logs logs' e did).2
+    ∙ length-map ks joined_of
+
+-- the one of the step is as it was
+pub lacked-there : (k : ℕ) (y y' : ServerSide) (ks next : List Joined) (logs logs' : List (List Entry)) (e : Refusal) (x d : Joined) → StepsServer k y (map joined_of ks) logs (Err e) y' (map joined_of next) logs' → k < length ks → x ≡ get_or next k d → At (map joined_of ks) k (joined_of x)
+lacked-there k y y' ks next logs logs' e x d did within is =
+    let long : length next ≡ length ks = lacked-long k y y' ks next logs logs' e did in
+    subst (λ (js : List model.Joined). At js k (joined_of x)) (lacked k y y' (map joined_of ks) (map joined_of next) logs logs' e did).2
+    (At-map joined_of next k x (found next k x d (omega (arith, within, long)) is))
+
+-- so is the core
+pub lacked-core : (k : ℕ) (y y' : ServerSide) (ks ks' : List model.Joined) (logs logs' : List (List Entry)) (e : Refusal) → StepsServer k y ks logs (Err e) y' ks' logs' → y'.core ≡ y.core
+lacked-core k y y' ks ks' logs logs' e did = ap (λ (z : model.ServerSide). z.core) (lacked k y y' ks ks' logs logs' e did).0
 
 -- ---- a step that begins
 

@@ -15,6 +15,7 @@ use Rattle.ca_model.specs.Due.{Action, Adds, Applies, Clears, Drops, Opens, Swit
 use Rattle.ca_model.specs.History.{Entry, Line, Step}
 use Rattle.ca_model.specs.Server.{Server, ServerCircuit, ServerEnd}
 use Rattle.ca_model.specs.ServerSteps.{HasEnd, closed, write_mask}
+use Rattle.ca_model.specs.ClientEvents.{waiting_up}
 use Rattle.ca_model.specs.Events.{ServerStep}
 use Rattle.ca_model.specs.Runs.{HasServerEnd}
 use Rattle.ca_model.specs.ServerEvents.{HappensServerStep, ending, ends_by, ends_here, handled_at, numbers_after, write_numbers}
@@ -41,11 +42,13 @@ use Rattle.ca_world_data.proofs.Worlds.{joins, one-at, set-map, set-same, world_
 use Rattle.ca_world_servers.specs.Parting.{AreBeside}
 use Rattle.ca_world.specs.Adding.{AreInOrder}
 use Rattle.ca_world.specs.ServerStepping.{LacksAs, Quits, StepsAt, circuits_acted, circuits_noted}
-use Rattle.ca_world.specs.StepParts.{MayBegin, StepsServer}
+use Rattle.ca_world.specs.Resting.{ComesUp, StepsOrRests}
+use Rattle.ca_world.specs.StepParts.{MayBegin}
 use Rattle.ca_world.specs.Whole.{IsReached}
 use Rattle.ca_world.proofs.Additions.{others-apart, run-order}
 use Rattle.ca_world.proofs.Cuttings.{run-reported, run-stands, serves-there}
 use Rattle.ca_world.proofs.Postings.{ending-keeps, posted-keeps, run-alike}
+use Rattle.ca_world.proofs.Rests.{run-comes}
 use Rattle.ca_world.proofs.Seating.{run-seated}
 use Rattle.ca_world.proofs.StepLaws.{step-happens}
 use Rattle.ca_world.proofs.Unstamped.{run-unstamped}
@@ -172,13 +175,13 @@ module _ (cs : List ClientSide) (ss : List ServerSide) (ks : List Joined) (cl : 
       moment = m;
     }
 
-    step-there : (y' : ServerSide) (ks' : List Joined) (sl' : List (List Entry)) (r : Result (Unit {0}) Refusal) → StepsServer k y (map joined_of ks) sl r y' (map joined_of ks') sl'
+    step-there : (y' : ServerSide) (ks' : List Joined) (sl' : List (List Entry)) (r : Result (Unit {0}) Refusal) → StepsOrRests k y (map joined_of ks) sl r y' (map joined_of ks') sl'
         → Does w (ServerStep k) r (world_of cs (slice_set ss j.server y') ks' cl sl' m)
     step-there y' ks' sl' (Ok u) (same, steps) =
         let did = step-happens w k (joined_of j) (server_of y) (At-map server_of ss j.server y server) (server_of y') (map joined_of ks') sl' (steps (joined_of j) (At-map joined_of ks k j at)) in
         (there, subst (λ (ys : List model.ServerSide). HappensServerStep w k (joined_of j) (server_of y) (record w { servers = ys; circuits = map joined_of ks'; server_logs = sl' })) (sym (set-map server_of ss j.server y')) did)
-    step-there y' ks' sl' (Err OutOfMemory) (is_y, numbers, is_k, is_l) = (there, stay y' ks' sl' is_y is_k is_l)
-    step-there y' ks' sl' (Err _) d = absurd d
+    step-there y' ks' sl' (Err OutOfMemory) (may, (is_y, numbers, is_k, is_l)) = ((there, may (joined_of j) (At-map joined_of ks k j at)), stay y' ks' sl' is_y is_k is_l)
+    step-there y' ks' sl' (Err _) d = absurd d.1
 
 -- ---- by the ends that were found
 
@@ -193,7 +196,20 @@ module _ (cs : List ClientSide) (ss : List ServerSide) (ks : List Joined) (cl : 
       let there : At (map server_of ss) j.server (server_of y) = subst (λ (n : ℕ). At (map server_of ss) n (server_of y)) (sym mine) (At-map server_of ss e.server y server) in
       subst (λ (n : ℕ). MayBegin n y.core j (map joined_of ks) (map record_of y.records.items)) mine (run-may-begin (world_of cs ss ks cl sl m) k j (server_of y) reached fit at there opened)
 
-  pub step-by : (y y' : ServerSide) (ks' : List Joined) (sl' : List (List Entry)) (r : Result (Unit {0}) Refusal) → At ss e.server y → e.server_open ≡ true → StepsServer k y (map joined_of ks) sl r y' (map joined_of ks') sl'
+  -- what came to the end
+  pub step-comes : (x : ClientSide) (y : ServerSide) (c : Joined) (n : ℕ) → At cs e.client x → At ss e.server y → At ks k c → e.server_open ≡ true → IsReached (world_of cs ss ks cl sl m) → n ≡ length (waiting_up (client_of x) (joined_of c)) → (j : model.Joined) → At (map joined_of ks) k j → ComesUp n y.core j
+  step-comes x y c n client server here on reached many j at =
+      let same : j ≡ joined_of a.j = At-one (map joined_of ks) k j (joined_of a.j) at (At-map joined_of ks k a.j a.at) in
+      let is : joined_of c ≡ j = At-one (map joined_of ks) k (joined_of c) j (At-map joined_of ks k c here) at in
+      let of : j.client ≡ e.client = ap (λ (z : model.Joined). z.client) same ∙ sym (ap (λ (z : Ends). z.client) a.is) in
+      let mine : j.server ≡ e.server = ap (λ (z : model.Joined). z.server) same ∙ sym (ap (λ (z : Ends). z.server) a.is) in
+      let opened : j.lists.server_open ≡ true = ap (λ (z : model.Joined). z.lists.server_open) same ∙ sym (ap (λ (z : Ends). z.server_open) a.is) ∙ on in
+      let to : At (map client_of cs) j.client (client_of x) = subst (λ (n : ℕ). At (map client_of cs) n (client_of x)) (sym of) (At-map client_of cs e.client x client) in
+      let from : At (map server_of ss) j.server (server_of y) = subst (λ (n : ℕ). At (map server_of ss) n (server_of y)) (sym mine) (At-map server_of ss e.server y server) in
+      subst (λ (n : ℕ). ComesUp n y.core j) (sym (many ∙ ap (λ (z : model.Joined). length (waiting_up (client_of x) z)) is))
+      (run-comes (world_of cs ss ks cl sl m) k j (client_of x) (server_of y) reached at to from opened)
+
+  pub step-by : (y y' : ServerSide) (ks' : List Joined) (sl' : List (List Entry)) (r : Result (Unit {0}) Refusal) → At ss e.server y → e.server_open ≡ true → StepsOrRests k y (map joined_of ks) sl r y' (map joined_of ks') sl'
       → Does (world_of cs ss ks cl sl m) (ServerStep k) r (world_of cs (slice_set ss e.server y') ks' cl sl' m)
   step-by y y' ks' sl' r server on d =
       let one = one-at cs a.j.client a.client in
@@ -204,7 +220,7 @@ module _ (cs : List ClientSide) (ss : List ServerSide) (ks : List Joined) (cl : 
       on
 
   -- circuits are found as before
-  pub step-indexed : (numbers : List (List ℕ)) (y y' : ServerSide) (ks' : List Joined) (sl' : List (List Entry)) (r : Result (Unit {0}) Refusal) → At ss e.server y → StepsServer k y (map joined_of ks) sl r y' (map joined_of ks') sl'
+  pub step-indexed : (numbers : List (List ℕ)) (y y' : ServerSide) (ks' : List Joined) (sl' : List (List Entry)) (r : Result (Unit {0}) Refusal) → At ss e.server y → StepsOrRests k y (map joined_of ks) sl r y' (map joined_of ks') sl'
       → AreIndexed numbers (server_numbers ss) (map joined_of ks) → AreIndexed numbers (server_numbers (slice_set ss e.server y')) (map joined_of ks')
   step-indexed numbers y y' ks' sl' (Ok u) server (same, steps) h =
       let at : At (map joined_of ks) k (joined_of a.j) = At-map joined_of ks k a.j a.at in
@@ -212,6 +228,6 @@ module _ (cs : List ClientSide) (ss : List ServerSide) (ks : List Joined) (cl : 
       (numbers-set (λ (z : ServerSide). z.circuits.items) ss e.server y y' server same)
       refl
       (steps-indexed numbers (server_numbers ss) k (joined_of a.j) (server_of y) (map joined_of ks) sl at h (server_of y') (map joined_of ks') sl' (steps (joined_of a.j) at))
-  step-indexed numbers y y' ks' sl' (Err OutOfMemory) server (is_y, same, is_k, is_l) h =
+  step-indexed numbers y y' ks' sl' (Err OutOfMemory) server (may, (is_y, same, is_k, is_l)) h =
       indexed-same numbers numbers (server_numbers ss) (server_numbers (slice_set ss e.server y')) (map joined_of ks) (map joined_of ks') refl (numbers-set (λ (z : ServerSide). z.circuits.items) ss e.server y y' server same) is_k h
-  step-indexed numbers y y' ks' sl' (Err _) server d h = absurd d
+  step-indexed numbers y y' ks' sl' (Err _) server d h = absurd d.1

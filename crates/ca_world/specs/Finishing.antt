@@ -196,5 +196,6 @@ FinishesAt i name y ks logs (Ok _) y' ks' logs' =
     Ends i name y ks logs y' ks' logs'
     ⊎ ((e : Refusal) × Finishes y.core name [] (Err e) y.core × (y' ≡ y) × (ks' ≡ ks)
     × (logs' ≡ logs))
-FinishesAt i name y ks logs (Err OutOfMemory) y' ks' logs' = (y' ≡ y) × (ks' ≡ ks) × (logs' ≡ logs)
+FinishesAt i name y ks logs (Err OutOfMemory) y' ks' logs' =
+    ((b : Put) × IsBusy y.core name b) × (y' ≡ y) × (ks' ≡ ks) × (logs' ≡ logs)
 FinishesAt i name y ks logs (Err _) y' ks' logs' = ⊥

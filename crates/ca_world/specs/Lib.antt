@@ -9,6 +9,9 @@ pub mod Wide
 pub mod Adding
 pub mod ServerStepping
 pub mod StepParts
+pub mod Resting
+pub mod Judging
+pub mod Passing
 pub mod Stepping
 pub mod Running
 pub mod Waiting

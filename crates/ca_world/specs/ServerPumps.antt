@@ -1,6 +1,6 @@
 -- Working: updates leave the queues of a server's end.
-use Rattle.std.specs.Prelude.{ℕ, ◌≡◌, ◌+◌, ◌==◌, ◌⊎◌, List, drop, Option, Some, None, Ok, Err}
-use Rattle.std.specs.Prelude.{Result, map}
+use Rattle.std.specs.Prelude.{ℕ, ◌≡◌, ◌≢◌, ◌+◌, ◌==◌, ◌⊎◌, List, [], drop, Option, Some, None, Ok}
+use Rattle.std.specs.Prelude.{Err, Result, map}
 use Rattle.std.specs.List.{FoldsTo}
 use Rattle.ca_arena.specs.declared.handle.Handle.{Handle}
 use Rattle.ca_text.specs.declared.refusal.Refusal.{Refusal}
@@ -74,5 +74,6 @@ PumpsServer k y j logs (Ok _) y' j' logs' =
       records = map (without_puts (λ n. n == k)) (map record_of y.records.items);
     })
     × (logs' ≡ grown y.life (all_withdrawn k y.records.items) logs)))
-PumpsServer k y j logs (Err OutOfMemory) y' j' logs' = (y' ≡ y) × (j' ≡ j) × (logs' ≡ logs)
+PumpsServer k y j logs (Err OutOfMemory) y' j' logs' =
+    (all_withdrawn k y.records.items ≢ []) × (y' ≡ y) × (j' ≡ j) × (logs' ≡ logs)
 PumpsServer k y j logs (Err _) y' j' logs' = ⊥

@@ -49,6 +49,9 @@ impl World {
         if server >= self.servers.len() {
             return Err(Refusal::BadEvent);
         }
+        if !self.may_add(server, name, count, &value) {
+            return Ok(());
+        }
         add_at(
             self.alloc,
             &mut self.servers[server],

@@ -93,8 +93,8 @@ fn count(
     }
 }
 
-// How many bytes wait for the server of a circuit.
-fn count_up(side: &ClientSide, joined: &Joined) -> usize
+/// How many bytes wait for the server of a circuit.
+pub(crate) fn count_up(side: &ClientSide, joined: &Joined) -> usize
     ensures { result ≡ length (waiting_up (client_of side.now) (joined_of joined.now)) }
 {
     if joined.lists.client_open {
@@ -103,8 +103,8 @@ fn count_up(side: &ClientSide, joined: &Joined) -> usize
     joined.left_up.bytes().len()
 }
 
-// How many bytes wait for the client of a circuit.
-fn count_down(side: &ServerSide, joined: &Joined) -> usize
+/// How many bytes wait for the client of a circuit.
+pub(crate) fn count_down(side: &ServerSide, joined: &Joined) -> usize
     ensures { result ≡ length (waiting_down (server_of side.now) (joined_of joined.now)) }
 {
     if joined.lists.server_open {

@@ -1,6 +1,7 @@
 //! Bytes go down a circuit, from the server or from what its end left. The client handles none of
 //! them yet, but may send EVENTS_OFF or EVENTS_ON, by whether more wait.
-ghost use Rattle.std.specs.Prelude.{◌≡◌, ◌++◌, ◌+◌, ◌≤◌, map, vec_capacity, vec_len};
+ghost use Rattle.std.specs.Prelude.{◌≡◌, ◌++◌, ◌+◌, ◌≤◌, OnErr, OnOk, is_some, length, map, true};
+ghost use Rattle.std.specs.Prelude.{vec_capacity, vec_len};
 ghost use Rattle.ca_model.specs.Events as event;
 ghost use Rattle.ca_world_data.specs.Does.{Does};
 ghost use Rattle.ca_world_data.specs.Downs.{HandsDown, LeavesDown, TakesDown, flow_said};
@@ -16,7 +17,7 @@ use ca_world_data::ends::ends_at;
 use ca_world_data::history::{Intent, Sent};
 use ca_world_data::joined::Joined;
 use ca_world_data::server::ServerSide;
-use std::alloc::Global;
+use std::alloc::{AllocError, Global};
 
 impl World {
     /// The first n bytes that wait at a server, or that its end left, reach the client of a
@@ -121,8 +122,8 @@ fn take_down(
         side.new
         (map sent_of up.new.items) }
 {
-    up.reserve(1)?;
     let flow = flow_of(&side.core, at_client, more);
+    reserve_flow(up, flow)?;
     match side.core.give(at_client, bytes, more) {
         Ok(()) => {
             push_flow(alloc, up, flow);
@@ -132,9 +133,21 @@ fn take_down(
     }
 }
 
+// Makes room for this command after what the client sent, if there is one.
+fn reserve_flow(up: &mut Vec<Sent>, flow: Option<Command>) -> Result<(), AllocError>
+    ensures same { map sent_of up.new.items ≡ map sent_of up.old.items }
+    ensures room { OnOk result (vec_len up.new + length (flow_said flow) ≤ vec_capacity up.new) }
+    ensures some { OnErr result (is_some flow ≡ true) }
+{
+    match flow {
+        Some(_) => up.reserve(1),
+        None => Ok(()),
+    }
+}
+
 // Puts this command after what the client sent, if there is one. There is room for it.
 fn push_flow(alloc: Global, up: &mut Vec<Sent>, flow: Option<Command>)
-    requires { vec_len up.old + 1 ≤ vec_capacity up.old }
+    requires { vec_len up.old + length (flow_said flow) ≤ vec_capacity up.old }
     ensures { map sent_of up.new.items ≡ map sent_of up.old.items ++ flow_said flow }
 {
     let Some(command) = flow else {

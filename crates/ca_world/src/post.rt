@@ -44,6 +44,9 @@ impl World {
         if server >= self.servers.len() {
             return Err(Refusal::BadEvent);
         }
+        if !self.may_post(server, name, &value) {
+            return Ok(());
+        }
         post_at(
             self.alloc,
             server,

@@ -29,6 +29,9 @@ impl World {
         if server >= self.servers.len() {
             return Err(Refusal::BadEvent);
         }
+        if !self.may_remove(server, name) {
+            return Ok(());
+        }
         remove_at(
             self.alloc,
             server,

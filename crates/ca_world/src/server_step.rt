@@ -15,6 +15,7 @@ ghost use Rattle.ca_model.specs.ServerEvents.{about};
 ghost use Rattle.ca_wire.specs.Fields.{Fields};
 ghost use Rattle.ca_world_servers.specs.Losing.{AreSeated};
 ghost use Rattle.ca_world.specs.Reported.{HasReported};
+ghost use Rattle.ca_world.specs.Resting.{ComesUp, StepsOrRests};
 ghost use Rattle.ca_world.specs.ServerStepping.{StepsAt, with_lists};
 ghost use Rattle.ca_world.specs.StepParts.{AreAside, ClosesWith, IsAheadOf, IsHandled, IsPrepared};
 ghost use Rattle.ca_world.specs.StepParts.{MayBegin, MayStep, NotesAt, StandBehind, StepsServer};
@@ -32,7 +33,9 @@ ghost use Rattle.ca_world_servers.specs.Effects.{AreApart, BeginsNew, IsPartingO
 ghost use Rattle.ca_world_servers.specs.Effects.{MayWaitFor, numbers_by, wrote_by};
 ghost use Rattle.ca_world_servers.specs.Handling.{HasRoomToNote, with_handled};
 
+use crate::circuits::count_up;
 use crate::cut_server::cut_end;
+use crate::resting::may_take;
 use crate::world::World;
 use ca_arena::Handle;
 use ca_server_core::{CoreStep as Did, Effect, ServerCore};
@@ -91,10 +94,12 @@ impl World {
         if !ends.server_open {
             return Err(Refusal::BadEvent);
         }
-        step_at(
+        let waiting = count_up(&self.clients[ends.client], &self.circuits[circuit]);
+        step_or_rest(
             self.alloc,
             circuit,
             ends.server,
+            waiting,
             &mut self.servers[ends.server],
             &mut self.circuits,
             &mut self.server_logs,
@@ -102,7 +107,50 @@ impl World {
     }
 }
 
-// A step of the end of a circuit at this server. All that needs memory, except the
+// A step of the end of a circuit at this server, if so many bytes wait at its client. If there is
+// no memory for it an end that takes no message rests.
+fn step_or_rest(
+    alloc: Global,
+    circuit: usize,
+    server: usize,
+    waiting: usize,
+    side: &mut ServerSide,
+    circuits: &mut Vec<Joined>,
+    logs: &mut Vec<Vec<LogEntry>>,
+) -> Result<(), Refusal>
+    requires within { circuit < vec_len circuits.old }
+    requires served { AreServed
+        side.old.circuits.items
+        (map joined_of circuits.old.items)
+        server }
+    requires may { (j : model.Joined)
+        → At (map joined_of circuits.old.items) circuit j
+        → MayBegin server side.old.core j (map joined_of circuits.old.items)
+        (map record_of side.old.records.items) }
+    requires comes { (j : model.Joined)
+        → At (map joined_of circuits.old.items) circuit j → ComesUp waiting side.old.core j }
+    ensures { StepsOrRests
+        circuit
+        side.old
+        (map joined_of circuits.old.items)
+        (entries_in logs.old.items)
+        result
+        side.new
+        (map joined_of circuits.new.items)
+        (entries_in logs.new.items) }
+{
+    match step_at(alloc, circuit, server, side, circuits, logs) {
+        Ok(()) => Ok(()),
+        Err(refusal) => {
+            if may_take(&side.core, &circuits[circuit], waiting) {
+                return Err(refusal);
+            }
+            Ok(())
+        }
+    }
+}
+
+// The same step, which lacks memory whatever the end would do. All that needs memory, except the
 // replies, is made before it.
 fn step_at(
     alloc: Global,

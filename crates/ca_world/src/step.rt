@@ -151,7 +151,7 @@ impl World {
         }
         match self.copy_value(&posting.value) {
             Ok(copy) => self.post(server, &posting.name, copy, posting.mask),
-            Err(_) => Err(Refusal::OutOfMemory),
+            Err(_) => self.lack_post(server, posting),
         }
     }
 
@@ -169,8 +169,38 @@ impl World {
         }
         match self.copy_value(&addition.value) {
             Ok(copy) => self.add(server, &addition.name, addition.count, addition.slow, copy),
-            Err(_) => Err(Refusal::OutOfMemory),
+            Err(_) => self.lack_addition(server, addition),
         }
+    }
+
+    // What a post is for which there is no memory: nothing, if the server refuses it.
+    fn lack_post(&self, server: usize, posting: &Posting) -> Result<(), Refusal>
+        requires { IsServer self.now server }
+        ensures { Does
+            self.now
+            (event.Post server posting.now.name.items (elements posting.now.value) posting.now.mask)
+            result
+            self.now }
+    {
+        if self.may_post(server, &posting.name, &posting.value) {
+            return Err(Refusal::OutOfMemory);
+        }
+        Ok(())
+    }
+
+    // The same of a new record.
+    fn lack_addition(&self, server: usize, addition: &Addition) -> Result<(), Refusal>
+        requires { IsServer self.now server }
+        ensures { Does
+            self.now
+            (event.Add server (record_of addition.now))
+            result
+            self.now }
+    {
+        if self.may_add(server, &addition.name, addition.count, &addition.value) {
+            return Err(Refusal::OutOfMemory);
+        }
+        Ok(())
     }
 
     // Whether there is a server of this number.

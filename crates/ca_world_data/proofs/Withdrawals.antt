@@ -1,6 +1,6 @@
 -- The puts that wait on a circuit, record by record.
 use Rattle.std.proofs.Common.{◌≡◌, ℕ, zero, suc, ◌+◌, ◌≤◌, ◌==◌, Bool, true, false, not, List, [], ◌∷◌, ◌++◌, length, refl, sym, ap, ◌∙◌, arith}
-use Rattle.std.specs.Prelude.{filter, if◌then◌else◌, map, slice_set, Vec}
+use Rattle.std.specs.Prelude.{◌≢◌, OnErr, Result, Ok, Err, filter, if◌then◌else◌, map, slice_set, Vec}
 use Rattle.std.specs.declared.alloc.Global.{Global}
 use Rattle.std.proofs.lemmas.List.{map-append}
 use Rattle.ca_text.specs.Place.{At}
@@ -69,3 +69,39 @@ withdrawn-next i k rs r got w at is kept =
     (λ t. record (record_of got) { waiting = (ap (map place_of) kept ∙ filter-places (λ (p : model.PutPlace). not (p.circuit == k)) got.waiting.items) t }) in
     ap (withdrawn_from (i + 1) k) (set-map record_of rs i (record got { waiting = w }) ∙ ap (slice_set (map record_of rs) i) (one ∙ (λ t. without k (record_of (sym is t)))))
     ∙ withdrawn-here i k (map record_of rs) (record_of r) (At-map record_of rs i r at)
+
+-- ---- some are withdrawn
+
+-- what is so of an error whatever it is
+pub on-err : {A E : Type 0} {P : Type 0} (r : Result A E) → P → OnErr r P
+on-err (Ok x) p = tt
+on-err (Err e) p = p
+
+-- a put of the circuit is among them
+pub some-put : (k i : ℕ) (ps : List PutPlace) (p : PutPlace) → At ps i p → (p.circuit == k) ≡ true → withdrawn_of k ps ≢ []
+some-put k i [] p at is none = absurd cc
+some-put k zero (q ∷ ps) p at is none = go (q.circuit == k) (ap (λ (z : PutPlace). z.circuit == k) (some_is q p at) ∙ is) none
+  where
+    go : (b : Bool) → b ≡ true → (if b then history.Withdrawn q.circuit q.place ∷ withdrawn_of k ps else withdrawn_of k ps) ≡ [] → ⊥
+    go true here none = absurd cc
+    go false here none = absurd cc
+some-put k (suc i) (q ∷ ps) p at is none = some-put k i ps p at is (go (q.circuit == k) none)
+  where
+    go : (b : Bool) → (if b then history.Withdrawn q.circuit q.place ∷ withdrawn_of k ps else withdrawn_of k ps) ≡ [] → withdrawn_of k ps ≡ []
+    go true none = absurd cc
+    go false none = none
+
+none-before : (xs ys : List Entry) → xs ++ ys ≡ [] → xs ≡ []
+none-before [] ys none = refl
+none-before (x ∷ xs) ys none = absurd cc
+
+none-behind : (xs ys : List Entry) → xs ++ ys ≡ [] → ys ≡ []
+none-behind [] ys none = none
+none-behind (x ∷ xs) ys none = absurd cc
+
+-- a record with one is among them
+pub some-record : (k i : ℕ) (rs : List RecordSide) (r : RecordSide) → At rs i r → withdrawn_of k r.waiting.items ≢ [] → all_withdrawn k rs ≢ []
+some-record k i [] r at some none = absurd cc
+some-record k zero (q ∷ rs) r at some none =
+    some (ap (λ (z : RecordSide). withdrawn_of k z.waiting.items) (sym (some_is q r at)) ∙ none-before (withdrawn_of k q.waiting.items) (all_withdrawn k rs) none)
+some-record k (suc i) (q ∷ rs) r at some none = some-record k i rs r at some (none-behind (withdrawn_of k q.waiting.items) (all_withdrawn k rs) none)

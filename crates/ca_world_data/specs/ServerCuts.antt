@@ -1,5 +1,5 @@
 -- Working: a server's end of a circuit is cut.
-use Rattle.std.specs.Prelude.{ℕ, ◌≡◌, ◌+◌, ◌==◌, ◌≤◌, List, [], Ok, Err, Result, Vec, map}
+use Rattle.std.specs.Prelude.{ℕ, ◌≡◌, ◌≢◌, ◌+◌, ◌==◌, ◌≤◌, List, [], Ok, Err, Result, Vec, map}
 use Rattle.std.specs.Prelude.{vec_capacity, vec_len}
 use Rattle.std.specs.declared.alloc.Global.{Global}
 use Rattle.ca_arena.specs.declared.handle.Handle.{Handle}
@@ -39,7 +39,7 @@ abbrev pub cut_core : Handle → Server → Server
 cut_core h y = closed h (ended h why.Cut (output_of (under y.circuits h)) y)
 
 -- The end at the server of circuit k is cut: it leaves what waited, and its puts
--- that wait are withdrawn.
+-- that wait are withdrawn. That takes memory only if one waits.
 abbrev pub CutsServer : (k : ℕ) → ServerSide → Joined → List (List history.Entry)
     → Result (Unit {0}) Refusal → ServerSide → Joined → List (List history.Entry) → Type 0
 CutsServer k y j logs (Ok _) y' j' logs' =
@@ -51,5 +51,6 @@ CutsServer k y j logs (Ok _) y' j' logs' =
     × (y'.circuits.items ≡ y.circuits.items)
     × (joined_of j' ≡ server_closed (output_of (under y.core.circuits j.at_server)) (joined_of j))
     × (logs' ≡ grown y.life (all_withdrawn k y.records.items) logs)
-CutsServer k y j logs (Err OutOfMemory) y' j' logs' = (y' ≡ y) × (j' ≡ j) × (logs' ≡ logs)
+CutsServer k y j logs (Err OutOfMemory) y' j' logs' =
+    (all_withdrawn k y.records.items ≢ []) × (y' ≡ y) × (j' ≡ j) × (logs' ≡ logs)
 CutsServer k y j logs (Err _) y' j' logs' = ⊥

@@ -1,5 +1,5 @@
 //! The logs of all lives of servers, by life. A life without a log has none that grows.
-ghost use Rattle.std.specs.Prelude.{ℕ, ◌≡◌, ◌++◌, ◌+◌, ◌≤◌, [], ◌∷◌, OnOk, length, map};
+ghost use Rattle.std.specs.Prelude.{ℕ, ◌≡◌, ◌≢◌, ◌++◌, ◌+◌, ◌≤◌, [], ◌∷◌, OnErr, OnOk, length, map};
 ghost use Rattle.std.specs.Prelude.{vec_capacity, vec_len};
 ghost use Rattle.ca_model.specs.World.{grown};
 ghost use Rattle.ca_world_data.specs.Opening.{entries_in};
@@ -9,7 +9,7 @@ ghost use Rattle.ca_world_data.specs.ServerCuts.{HasRoomFor};
 use crate::history::LogEntry;
 use std::alloc::AllocError;
 
-/// Makes room for n more entries in the log of a life.
+/// Makes room for n more entries in the log of a life, which takes none for none.
 pub fn reserve_entries(
     logs: &mut Vec<Vec<LogEntry>>,
     life: usize,
@@ -17,6 +17,7 @@ pub fn reserve_entries(
 ) -> Result<(), AllocError>
     ensures same { entries_in logs.new.items ≡ entries_in logs.old.items }
     ensures room { OnOk result (HasRoomFor entries life logs.new.items) }
+    ensures lacks { OnErr result (entries ≢ 0) }
 {
     if life < logs.len() {
         logs[life].reserve(entries)?;

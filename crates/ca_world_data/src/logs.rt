@@ -1,5 +1,5 @@
 //! The logs of all lives, by life. A life without a log has none that grows.
-ghost use Rattle.std.specs.Prelude.{◌≡◌, [], ◌∷◌, OnOk};
+ghost use Rattle.std.specs.Prelude.{◌≡◌, ◌≢◌, [], ◌∷◌, OnErr, OnOk};
 ghost use Rattle.ca_model.specs.World.{grown};
 ghost use Rattle.ca_world_data.specs.Logs.{HasRoom, Notes, lines_in};
 ghost use Rattle.ca_world_data.specs.Seen.{line_of};
@@ -8,10 +8,11 @@ use crate::history::Line;
 use ca_text::Refusal;
 use std::alloc::AllocError;
 
-/// Makes room for n more lines in the log of a life.
+/// Makes room for n more lines in the log of a life, which takes none for none.
 pub fn reserve_lines(logs: &mut Vec<Vec<Line>>, life: usize, lines: usize) -> Result<(), AllocError>
     ensures same { lines_in logs.new.items ≡ lines_in logs.old.items }
     ensures room { OnOk result (HasRoom lines life logs.new.items) }
+    ensures lacks { OnErr result (lines ≢ 0) }
 {
     if life < logs.len() {
         logs[life].reserve(lines)?;

@@ -1,5 +1,5 @@
 //! The puts that wait on a circuit whose end at its server ends.
-ghost use Rattle.std.specs.Prelude.{◌≡◌, ◌++◌, ◌==◌, IfOk, OnOk, filter, map, not};
+ghost use Rattle.std.specs.Prelude.{[], ◌≡◌, ◌≢◌, ◌++◌, ◌==◌, IfOk, OnErr, OnOk, filter, map, not};
 ghost use Rattle.ca_model.specs.ServerEvents.{without_puts};
 ghost use Rattle.ca_world_data.specs.Seen.{entry_of, record_of};
 ghost use Rattle.ca_world_data.specs.Withdrawing.{all_withdrawn, withdrawn_of};
@@ -8,13 +8,16 @@ use crate::history::LogEntry;
 use crate::server::{PutPlace, RecordSide};
 use std::alloc::{AllocError, Global};
 
-/// What the log tells of the withdrawal of all puts that wait on this circuit, record by record.
+/// What the log tells of the withdrawal of all puts that wait on this circuit, record by record. It
+/// takes memory only if one does.
 pub fn withdrawals(
     alloc: Global,
     circuit: usize,
     records: &[RecordSide],
 ) -> Result<Vec<LogEntry>, AllocError>
-    ensures { IfOk result (λ all. map entry_of all.items ≡ all_withdrawn circuit records.now) }
+    ensures told { IfOk result (λ all. map entry_of all.items
+        ≡ all_withdrawn circuit records.now) }
+    ensures lacks { OnErr result (all_withdrawn circuit records.now ≢ []) }
 {
     let mut all = Vec::new(alloc);
     for record in records {
@@ -29,8 +32,9 @@ fn tell_withdrawn(
     circuit: usize,
     waiting: &[PutPlace],
 ) -> Result<(), AllocError>
-    ensures { OnOk result (map entry_of all.new.items
+    ensures told { OnOk result (map entry_of all.new.items
         ≡ map entry_of all.old.items ++ withdrawn_of circuit waiting.now) }
+    ensures lacks { OnErr result (withdrawn_of circuit waiting.now ≢ []) }
 {
     for put in waiting {
         if put.circuit == circuit {

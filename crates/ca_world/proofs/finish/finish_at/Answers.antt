@@ -16,7 +16,7 @@ use Rattle.ca_world_data.specs.declared.server.ServerSide.{ServerSide}
 use Rattle.ca_world_data.specs.Opening.{entries_in}
 use Rattle.ca_world_data.specs.Seen.{joined_of, place_of, record_of}
 use Rattle.ca_world_data.proofs.Worlds.{one-at}
-use Rattle.ca_world.proofs.Finishings.{busy-on, found-beside, none-busy, refuses, some-busy, told-ends}
+use Rattle.ca_world.proofs.Finishings.{busy-on, finish-lacking, found-beside, none-busy, refuses, some-busy, told-ends}
 use Rattle.ca_world.proofs.finish.finish_at.Goals as goal
 
 pub returns-then-is_none : goal.returns-then-is_none
@@ -24,6 +24,46 @@ returns-then-is_none c =
     let has : is_some c.busy_value.result ≡ false = c.is_none.ensures ∙ ap not c.if-is_none.true in
     let d = refuses c.args.side.now.core c.args.name.now (none-busy (λ v. elements v.now) c.busy_value.result c.args.side.now.core c.args.name.now c.busy_value.ensures has) in
     inr (d.0, d.1, refl, refl, refl)
+
+pub returns-in_default : goal.returns-in_default
+returns-in_default c =
+    let y : ServerSide = c.args.side.now in
+    let name : List ℕ = c.args.name.now in
+    let has : is_some c.busy_value.result ≡ true = c.is_none.ensures ∙ ap not c.if-is_none.false in
+    let b : (z : Put) × IsBusy y.core name z = some-busy (λ v. elements v.now) c.busy_value.result y.core name c.busy_value.ensures has in
+    (b, refl, refl, refl)
+
+pub returns-in_default-busy : goal.returns-in_default-busy
+returns-in_default-busy c =
+    let y : ServerSide = c.args.side.now in
+    let name : List ℕ = c.args.name.now in
+    let has : is_some c.busy_value.result ≡ true = c.is_none.ensures ∙ ap not c.if-is_none.false in
+    let b : (z : Put) × IsBusy y.core name z = some-busy (λ v. elements v.now) c.busy_value.result y.core name c.busy_value.ensures has in
+    (b, refl, refl, refl)
+
+pub returns-then-put-len : goal.returns-then-put-len
+returns-then-put-len c =
+    let y : ServerSide = c.args.side.now in
+    let name : List ℕ = c.args.name.now in
+    let has : is_some c.busy_value.result ≡ true = c.is_none.ensures ∙ ap not c.if-is_none.false in
+    let b : (z : Put) × IsBusy y.core name z = some-busy (λ v. elements v.now) c.busy_value.result y.core name c.busy_value.ensures has in
+    (b, refl, refl, refl)
+
+pub returns-in_err-value : goal.returns-in_err-value
+returns-in_err-value c =
+    let y : ServerSide = c.args.side.now in
+    let name : List ℕ = c.args.name.now in
+    let has : is_some c.busy_value.result ≡ true = c.is_none.ensures ∙ ap not c.if-is_none.false in
+    let b : (z : Put) × IsBusy y.core name z = some-busy (λ v. elements v.now) c.busy_value.result y.core name c.busy_value.ensures has in
+    finish-lacking c.args.server name y y (map joined_of c.args.circuits.now.items) (map joined_of c.args.circuits.now.items) (entries_in c.args.logs.now.items) (entries_in c.args.logs.now.items) c.from_residual.result c.from_residual.ensures.1 b refl refl refl
+
+pub returns-in_err-reserve_finish : goal.returns-in_err-reserve_finish
+returns-in_err-reserve_finish c =
+    let y : ServerSide = c.args.side.now in
+    let name : List ℕ = c.args.name.now in
+    let has : is_some c.busy_value.result ≡ true = c.is_none.ensures ∙ ap not c.if-is_none.false in
+    let b : (z : Put) × IsBusy y.core name z = some-busy (λ v. elements v.now) c.busy_value.result y.core name c.busy_value.ensures has in
+    finish-lacking c.args.server name y y (map joined_of c.args.circuits.now.items) (map joined_of c.reserve_finish.new.circuits.items) (entries_in c.args.logs.now.items) (entries_in c.reserve_finish.new.logs.items) c.from_residual-in_err-reserve_finish.result c.from_residual-in_err-reserve_finish.ensures.1 b refl c.reserve_finish.ensures.same c.reserve_finish.ensures.logged
 
 pub tell_finish-requires-clause-busy : goal.tell_finish-requires-clause-busy
 tell_finish-requires-clause-busy c =

@@ -18,7 +18,7 @@ returns c =
     let gone : model.RecordSide → model.RecordSide = without_puts (λ n. n == k) in
     let records : map record_of (with_items y.records c.withdraw.new.records).items ≡ map gone (map record_of y.records.items) =
     ap (map record_of) (with_items_is y.records c.withdraw.new.records (c.withdraw.auto.records ∙ c.deref_mut.ensures.len)) ∙ c.withdraw.ensures ∙ ap (λ (rs : List RecordSide). map gone (map record_of rs)) c.deref_mut.ensures.value in
-    let told : map entry_of c.in_ok-told.told.items ≡ all_withdrawn k y.records.items = c.in_ok-told.ensures ∙ ap (all_withdrawn k) c.deref.ensures.value in (
+    let told : map entry_of c.in_ok-told.told.items ≡ all_withdrawn k y.records.items = c.in_ok-told.ensures.told ∙ ap (all_withdrawn k) c.deref.ensures.value in (
       refl,
       inr (
         c.in-Some.left,

@@ -1,8 +1,9 @@
-use Rattle.std.proofs.Common.{◌+◌, ◌<◌, ◌≤◌, length, List, arith, Vec, Global}
+use Rattle.std.proofs.Common.{◌≢◌, ◌+◌, ◌<◌, ◌≤◌, length, List, arith, Vec, Global}
 use Rattle.std.specs.Prelude.{vec_capacity, vec_len}
 use Rattle.ca_text.specs.Place.{At}
 use Rattle.ca_world_data.specs.declared.history.LogEntry.{LogEntry}
 use Rattle.ca_world_data.proofs.Entering.{entries-room, no-entries-room, same-entries}
+use Rattle.ca_world_data.proofs.Withdrawals.{on-err}
 use Rattle.ca_world_data.proofs.Worlds.{found}
 use Rattle.ca_world_data.proofs.entries.reserve_entries.Goals as goal
 
@@ -13,6 +14,12 @@ returns-in_err-reserve-clause-same c =
     let within : c.args.life < length logs = omega (arith, c.if-life-len.true, c.len.ensures) in
     let at : At logs c.args.life log = found logs c.args.life log log within c.index_mut.ensures.value in
     same-entries logs c.args.life log c.reserve.new.self at c.reserve.ensures.items
+
+pub returns-in_err-reserve-clause-lacks : goal.returns-in_err-reserve-clause-lacks
+returns-in_err-reserve-clause-lacks c =
+    let log : Vec LogEntry Global = c.index_mut.result.now in
+    let some : c.args.entries ≢ 0 = λ none. omega (arith, none, c.in_err-reserve.ensures.full, log.ok.1) in
+    on-err c.from_residual.result some
 
 pub returns-in_ok-reserve-clause-same : goal.returns-in_ok-reserve-clause-same
 returns-in_ok-reserve-clause-same c =

@@ -1,4 +1,4 @@
-use Rattle.std.proofs.Common.{ℕ, ◌<◌, length, List, refl, subst, arith}
+use Rattle.std.proofs.Common.{ℕ, ◌<◌, length, List, refl, subst, sym, arith}
 use Rattle.std.specs.Prelude.{map, slice_set}
 use Rattle.ca_dbr.specs.Elements.{elements}
 use Rattle.ca_records.specs.Record.{RecordState, unset}
@@ -6,11 +6,12 @@ use Rattle.ca_text.specs.Place.{At}
 use Rattle.ca_text.proofs.Places.{At-map}
 use Rattle.ca_model.specs.History as history
 use Rattle.ca_model.specs.Events.{Add}
+use Rattle.ca_model.specs.Runs.{IsServer}
 use Rattle.ca_model.specs.World.{World}
 use Rattle.ca_world_data.specs.declared.client.ClientSide.{ClientSide}
 use Rattle.ca_world_data.specs.declared.joined.Joined.{Joined}
 use Rattle.ca_world_data.specs.declared.server.ServerSide.{ServerSide}
-use Rattle.ca_world_data.specs.Does.{Does}
+use Rattle.ca_world_data.specs.Does.{Does, MayLack}
 use Rattle.ca_world_data.specs.Indexed.{client_numbers, server_numbers}
 use Rattle.ca_world_data.specs.Logs.{lines_in}
 use Rattle.ca_world_data.specs.Opening.{entries_in}
@@ -20,6 +21,7 @@ use Rattle.ca_world_data.proofs.Worlds.{found, world_of}
 use Rattle.ca_world.specs.Whole.{seen}
 use Rattle.ca_world.proofs.Additions.{add-does, run-order}
 use Rattle.ca_world.proofs.Lasting.{all-stand}
+use Rattle.ca_world.proofs.Waits.{server-here}
 use Rattle.ca_world.proofs.world.World.add.Goals as goal
 
 pub add_at-requires : goal.add_at-requires
@@ -31,6 +33,16 @@ add_at-requires c =
     let within : i < length ss = omega (arith, c.if-server-len.false, c.len.ensures) in
     let at : At ss i y = found ss i y y within c.index_mut.ensures.value in
     run-order (seen w) i (server_of y) c.self.invariant.reached (At-map server_of ss i y at)
+
+pub may_add-requires : goal.may_add-requires
+may_add-requires c =
+    let w = c.self.inside in
+    let within : c.args.server < length w.servers.items = omega (arith, c.if-server-len.false, c.len.ensures) in
+    subst (λ (v : World). IsServer v c.args.server) c.self.view_is
+    (server-here w.clients.items w.servers.items w.circuits.items (lines_in w.client_logs.items) (entries_in w.server_logs.items) w.moment 0 c.args.server within)
+
+pub returns-then-not-may_add : goal.returns-then-not-may_add
+returns-then-not-may_add c = c.may_add.ensures.refuses c.args.slow c.if-not-may_add.true
 
 pub returns : goal.returns
 returns c =
@@ -47,7 +59,8 @@ returns c =
     let at : At ss i y = found ss i y y within c.index_mut.ensures.value in
     let y' : ServerSide = c.add_at.new.side in
     let sl' : List (List history.Entry) = entries_in c.add_at.new.logs.items in
-    let d = add-does cs ss ks cl sl w.moment i y at s y' sl' c.add_at.result c.add_at.ensures.adds in
+    let may = subst (λ (v : World). MayLack v (Add i s)) (sym c.self.view_is) (c.may_add.ensures.takes c.args.slow c.if-not-may_add.false) in
+    let d = add-does cs ss ks cl sl w.moment i y at s may y' sl' c.add_at.result c.add_at.ensures.adds in
     subst (λ (z : World). Does z (Add i s) c.add_at.result (world_of cs (slice_set ss i y') ks cl sl' w.moment)) c.self.view_is d
 
 pub invariant_of-self : goal.invariant_of-self
@@ -65,6 +78,7 @@ invariant_of-self c =
     let at : At ss i y = found ss i y y within c.index_mut.ensures.value in
     let y' : ServerSide = c.add_at.new.side in
     let sl' : List (List history.Entry) = entries_in c.add_at.new.logs.items in
-    let d = add-does cs ss ks cl sl w.moment i y at s y' sl' c.add_at.result c.add_at.ensures.adds in
+    let may = subst (λ (v : World). MayLack v (Add i s)) (sym c.self.view_is) (c.may_add.ensures.takes c.args.slow c.if-not-may_add.false) in
+    let d = add-does cs ss ks cl sl w.moment i y at s may y' sl' c.add_at.result c.add_at.ensures.adds in
     let indexed = indexed-same (client_numbers cs) (client_numbers cs) (server_numbers ss) (server_numbers (slice_set ss i y')) (map joined_of ks) (map joined_of ks) refl (numbers-set (λ (z : ServerSide). z.circuits.items) ss i y y' at c.add_at.ensures.kept) refl c.self.invariant.indexed in
     all-stand w _ (Add i s) (c.know.ensures, refl) c.add_at.result d c.self.invariant indexed

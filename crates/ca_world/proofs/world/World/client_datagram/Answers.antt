@@ -14,8 +14,8 @@ use Rattle.ca_world.proofs.ClientHearings.{hears-does, hears-keep}
 use Rattle.ca_world.proofs.Speeches.{numbered-here, speaks, speaks-stand}
 use Rattle.ca_world.proofs.world.World.client_datagram.Goals as goal
 
-pub hear_datagram-requires : goal.hear_datagram-requires
-hear_datagram-requires c =
+pub hear_or_pass-requires : goal.hear_or_pass-requires
+hear_or_pass-requires c =
     let w = c.self.inside in
     let cs : List ClientSide = w.clients.items in
     let i : ℕ = c.args.client in
@@ -29,15 +29,15 @@ returns c =
     let cs : List ClientSide = w.clients.items in
     let i : ℕ = c.args.client in
     let x : ClientSide = c.index_mut.result.now in
-    let x' : ClientSide = c.hear_datagram.new.side in
+    let x' : ClientSide = c.hear_or_pass.new.side in
     let within : i < length cs = omega (arith, c.if-client-len.false, c.len.ensures) in
     let at : At cs i x = found cs i x x within c.index_mut.ensures.value in
     let e : Event = ClientDatagram i c.args.from c.args.bytes.now in
     let logs = lines_in w.client_logs.items in
-    let next = map joined_of c.hear_datagram.new.circuits.items in
-    let d = hears-does (seen w) i (client_of x) (client_of x') c.args.from c.args.bytes.now next c.hear_datagram.result (At-map client_of cs i x at) c.hear_datagram.ensures.hears in
-    subst (λ (z : model.World). Does z e c.hear_datagram.result (record (seen w) { clients = map client_of (slice_set cs i x'); client_logs = logs; circuits = next })) c.self.view_is
-    (speaks w i x at c.self.invariant e c.hear_datagram.result x' logs next d)
+    let next = map joined_of c.hear_or_pass.new.circuits.items in
+    let d = hears-does (seen w) i (client_of x) (client_of x') c.args.from c.args.bytes.now next c.hear_or_pass.result (At-map client_of cs i x at) c.hear_or_pass.ensures.hears c.hear_or_pass.ensures.lacks in
+    subst (λ (z : model.World). Does z e c.hear_or_pass.result (record (seen w) { clients = map client_of (slice_set cs i x'); client_logs = logs; circuits = next })) c.self.view_is
+    (speaks w i x at c.self.invariant e c.hear_or_pass.result x' logs next d)
 
 pub invariant_of-self : goal.invariant_of-self
 invariant_of-self c =
@@ -45,12 +45,12 @@ invariant_of-self c =
     let cs : List ClientSide = w.clients.items in
     let i : ℕ = c.args.client in
     let x : ClientSide = c.index_mut.result.now in
-    let x' : ClientSide = c.hear_datagram.new.side in
+    let x' : ClientSide = c.hear_or_pass.new.side in
     let within : i < length cs = omega (arith, c.if-client-len.false, c.len.ensures) in
     let at : At cs i x = found cs i x x within c.index_mut.ensures.value in
     let e : Event = ClientDatagram i c.args.from c.args.bytes.now in
     let logs = lines_in w.client_logs.items in
-    let next = map joined_of c.hear_datagram.new.circuits.items in
-    let d = hears-does (seen w) i (client_of x) (client_of x') c.args.from c.args.bytes.now next c.hear_datagram.result (At-map client_of cs i x at) c.hear_datagram.ensures.hears in
-    speaks-stand w i x at c.self.invariant e c.hear_datagram.result x' logs next d tt _ refl c.hear_datagram.ensures.kept refl refl
-    (hears-keep i _ (client_of x) (client_of x') (map joined_of w.circuits.items) next c.hear_datagram.result c.hear_datagram.ensures.hears)
+    let next = map joined_of c.hear_or_pass.new.circuits.items in
+    let d = hears-does (seen w) i (client_of x) (client_of x') c.args.from c.args.bytes.now next c.hear_or_pass.result (At-map client_of cs i x at) c.hear_or_pass.ensures.hears c.hear_or_pass.ensures.lacks in
+    speaks-stand w i x at c.self.invariant e c.hear_or_pass.result x' logs next d tt _ refl c.hear_or_pass.ensures.kept refl refl
+    (hears-keep i _ (client_of x) (client_of x') (map joined_of w.circuits.items) next c.hear_or_pass.result c.hear_or_pass.ensures.hears)

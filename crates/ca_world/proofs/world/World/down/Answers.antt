@@ -13,7 +13,7 @@ use Rattle.ca_world_data.specs.declared.server.ServerSide.{ServerSide}
 use Rattle.ca_world_data.specs.Does.{Does}
 use Rattle.ca_world_data.specs.Indexed.{client_numbers, server_numbers}
 use Rattle.ca_world_data.specs.Seen.{entry_of, joined_of, line_of}
-use Rattle.ca_world.proofs.Downward.{down-by-left, down-by-server, down-none, down-off, hands-keep, leaves-keep}
+use Rattle.ca_world.proofs.Downward.{down-by-left, down-by-server, down-linked, down-none, down-off, hands-keep, leaves-keep}
 use Rattle.ca_world_data.proofs.Indexes.{indexed-circuit, indexed-same, numbers-set}
 use Rattle.ca_world.proofs.Lasting.{all-stand}
 use Rattle.ca_world.proofs.Speeches.{numbered-here}
@@ -59,12 +59,13 @@ returns-then-ends c =
     let at : At ks k j = found ks k j j within c.index_mut-joined.ensures.value in
     let on = is-open e.client_open c.if-not-ends.false in
     let numbered = numbered-here w e.client x client c.self.invariant in
+    let linked = down-linked cs ss ks cl sl w.moment k n e a x j at client on c.self.invariant.clients in
     let y : ServerSide = c.index_mut-server.result.now in
     let server : At ss e.server y = found ss e.server y y (ends-server (length cs) (length ss) ks k e a) c.index_mut-server.ensures.value in
     let x' : ClientSide = c.hand_down.new.side in
     let y' : ServerSide = c.hand_down.new.server in
     let j' : Joined = c.hand_down.new.joined in
-    let d = down-by-server cs ss ks cl sl w.moment k n e a x x' y y' j j' c.hand_down.result x.circuits.items at client server on c.if-ends.true numbered c.hand_down.ensures in
+    let d = down-by-server cs ss ks cl sl w.moment k n e a x x' y y' j j' c.hand_down.result x.circuits.items at client server on c.if-ends.true numbered linked c.hand_down.ensures in
     subst (λ (z : World). Does z (Down k n) c.hand_down.result (world_of (slice_set cs e.client x') (slice_set ss e.server y') (slice_set ks k j') cl sl w.moment)) c.self.view_is d
 
 pub returns : goal.returns
@@ -86,9 +87,10 @@ returns c =
     let at : At ks k j = found ks k j j within c.index_mut-joined.ensures.value in
     let on = is-open e.client_open c.if-not-ends.false in
     let numbered = numbered-here w e.client x client c.self.invariant in
+    let linked = down-linked cs ss ks cl sl w.moment k n e a x j at client on c.self.invariant.clients in
     let x' : ClientSide = c.leave_down.new.side in
     let j' : Joined = c.leave_down.new.joined in
-    let d = down-by-left cs ss ks cl sl w.moment k n e a x x' j j' c.leave_down.result x.circuits.items at client on c.if-ends.false numbered c.leave_down.ensures in
+    let d = down-by-left cs ss ks cl sl w.moment k n e a x x' j j' c.leave_down.result x.circuits.items at client on c.if-ends.false numbered linked c.leave_down.ensures in
     subst (λ (z : World). Does z (Down k n) c.leave_down.result (world_of (slice_set cs e.client x') ss (slice_set ks k j') cl sl w.moment)) c.self.view_is d
 
 pub invariant_of-self : goal.invariant_of-self
@@ -110,12 +112,13 @@ invariant_of-self c =
     let at : At ks k j = found ks k j j within c.index_mut-joined.ensures.value in
     let on = is-open e.client_open c.if-not-ends.false in
     let numbered = numbered-here w e.client x client c.self.invariant in
+    let linked = down-linked cs ss ks cl sl w.moment k n e a x j at client on c.self.invariant.clients in
     let y : ServerSide = c.index_mut-server.result.now in
     let server : At ss e.server y = found ss e.server y y (ends-server (length cs) (length ss) ks k e a) c.index_mut-server.ensures.value in
     let x' : ClientSide = c.hand_down.new.side in
     let y' : ServerSide = c.hand_down.new.server in
     let j' : Joined = c.hand_down.new.joined in
-    let d = down-by-server cs ss ks cl sl w.moment k n e a x x' y y' j j' c.hand_down.result x.circuits.items at client server on c.if-ends.true numbered c.hand_down.ensures in
+    let d = down-by-server cs ss ks cl sl w.moment k n e a x x' y y' j j' c.hand_down.result x.circuits.items at client server on c.if-ends.true numbered linked c.hand_down.ensures in
     let kept = hands-keep x x' y y' j j' n c.hand_down.result c.hand_down.ensures in
     let moved = indexed-circuit (client_numbers cs) (server_numbers ss) (map joined_of ks) c.self.invariant.indexed k (joined_of j) (joined_of j') (At-map joined_of ks k j at) kept.2 in
     let indexed = indexed-same (client_numbers cs) (client_numbers (slice_set cs e.client x')) (server_numbers ss) (server_numbers (slice_set ss e.server y')) (slice_set (map joined_of ks) k (joined_of j')) (map joined_of (slice_set ks k j'))
@@ -143,9 +146,10 @@ invariant_of-self-2 c =
     let at : At ks k j = found ks k j j within c.index_mut-joined.ensures.value in
     let on = is-open e.client_open c.if-not-ends.false in
     let numbered = numbered-here w e.client x client c.self.invariant in
+    let linked = down-linked cs ss ks cl sl w.moment k n e a x j at client on c.self.invariant.clients in
     let x' : ClientSide = c.leave_down.new.side in
     let j' : Joined = c.leave_down.new.joined in
-    let d = down-by-left cs ss ks cl sl w.moment k n e a x x' j j' c.leave_down.result x.circuits.items at client on c.if-ends.false numbered c.leave_down.ensures in
+    let d = down-by-left cs ss ks cl sl w.moment k n e a x x' j j' c.leave_down.result x.circuits.items at client on c.if-ends.false numbered linked c.leave_down.ensures in
     let kept = leaves-keep x x' j j' n c.leave_down.result c.leave_down.ensures in
     let moved = indexed-circuit (client_numbers cs) (server_numbers ss) (map joined_of ks) c.self.invariant.indexed k (joined_of j) (joined_of j') (At-map joined_of ks k j at) kept.1 in
     let indexed = indexed-same (client_numbers cs) (client_numbers (slice_set cs e.client x')) (server_numbers ss) (server_numbers ss) (slice_set (map joined_of ks) k (joined_of j')) (map joined_of (slice_set ks k j'))

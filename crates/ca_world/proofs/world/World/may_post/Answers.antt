@@ -1,0 +1,42 @@
+use Rattle.std.proofs.Common.{ℕ, ◌<◌, length, List, sym, subst, arith}
+use Rattle.ca_dbr.specs.Elements.{elements}
+use Rattle.ca_text.specs.Place.{At}
+use Rattle.ca_model.specs.Events.{Post}
+use Rattle.ca_model.specs.Runs.{Happens, IsServer}
+use Rattle.ca_model.specs.World.{World}
+use Rattle.ca_world_data.specs.declared.server.ServerSide.{ServerSide}
+use Rattle.ca_world_data.specs.Does.{MayLack}
+use Rattle.ca_world_data.specs.Logs.{lines_in}
+use Rattle.ca_world_data.specs.Opening.{entries_in}
+use Rattle.ca_world_data.proofs.Worlds.{found}
+use Rattle.ca_world.proofs.Judgements.{post-refused, post-taken}
+use Rattle.ca_world.proofs.Waits.{server-within}
+use Rattle.ca_world.proofs.world.World.may_post.Goals as goal
+
+pub index-requires : goal.index-requires
+index-requires c =
+    let w = c.self.inside in
+    let within = server-within w.clients.items w.servers.items w.circuits.items (lines_in w.client_logs.items) (entries_in w.server_logs.items) w.moment 0 c.args.server (subst (λ (v : World). IsServer v c.args.server) (sym c.self.view_is) c.requires) in
+    omega (arith, within)
+
+pub returns-clause-takes : goal.returns-clause-takes
+returns-clause-takes c = λ mask b.
+    let w = c.self.inside in
+    let i : ℕ = c.args.server in
+    let ss : List ServerSide = w.servers.items in
+    let y : ServerSide = c.index.result.now in
+    let within : i < length ss = server-within w.clients.items ss w.circuits.items (lines_in w.client_logs.items) (entries_in w.server_logs.items) w.moment 0 i (subst (λ (v : World). IsServer v i) (sym c.self.view_is) c.requires) in
+    let at : At ss i y = found ss i y y within c.index.ensures in
+    subst (λ (v : World). MayLack v (Post i c.args.name.now (elements c.args.value.now) mask)) c.self.view_is
+    (post-taken w.clients.items ss w.circuits.items (lines_in w.client_logs.items) (entries_in w.server_logs.items) w.moment i y at c.args.name.now (elements c.args.value.now) mask c.takes_post.result c.takes_post.ensures b)
+
+pub returns-clause-refuses : goal.returns-clause-refuses
+returns-clause-refuses c = λ mask b.
+    let w = c.self.inside in
+    let i : ℕ = c.args.server in
+    let ss : List ServerSide = w.servers.items in
+    let y : ServerSide = c.index.result.now in
+    let within : i < length ss = server-within w.clients.items ss w.circuits.items (lines_in w.client_logs.items) (entries_in w.server_logs.items) w.moment 0 i (subst (λ (v : World). IsServer v i) (sym c.self.view_is) c.requires) in
+    let at : At ss i y = found ss i y y within c.index.ensures in
+    subst (λ (v : World). Happens v (Post i c.args.name.now (elements c.args.value.now) mask) v) c.self.view_is
+    (post-refused w.clients.items ss w.circuits.items (lines_in w.client_logs.items) (entries_in w.server_logs.items) w.moment i y at c.args.name.now (elements c.args.value.now) mask c.takes_post.result c.takes_post.ensures b)
