@@ -74,14 +74,14 @@ fn came_down(down: &[Told], place: usize, waiting: usize) -> bool
     if place >= down.len() {
         return false;
     }
-    if left_of_told(&down[place + 1..], waiting) > 0 {
+    if left_over_down(&down[place + 1..], waiting) > 0 {
         return false;
     }
     true
 }
 
 // How many of so many bytes are left over if these messages of a server are taken off.
-fn left_of_told(messages: &[Told], waiting: usize) -> usize
+fn left_over_down(messages: &[Told], waiting: usize) -> usize
     ensures { result ≡ waiting - bytes_down messages.now }
 {
     let mut left = waiting;
