@@ -41,7 +41,7 @@ SubKnown t k upto sid id =
     × NoCancel k i j sid id × (j < upto) × (IsRefused k j add → ⊥)
 
 -- What is known of an open end with these channels and subscriptions, whose EVENT_ADDs were among
--- the first so many messages that were read.
+-- the first `upto` messages that were read.
 pub record EndKnownTo (upto : ℕ) (t : Table OpenChannel) (subs : List Subscription) (k : Conduct) : Type 0 where
   pub few : length t ≤ arena_slots
   pub channels : (h : Handle) (o : OpenChannel) → under t h ≡ Some o → ChannelKnown k (wire_of h) o

@@ -32,7 +32,7 @@ bytes_down [] = 0
 bytes_down (t ∷ ts) = length (spelling t.message) + bytes_down ts
 
 -- What came to an end, with these bytes after it, is the messages from this place on that were sent
--- to it. At least so many of these bytes wait at the other end, and all if that is open.
+-- to it. At least `waiting` of these bytes wait at the other end, and all if that is open.
 pub record Comes (waiting : ℕ) (came : List ℕ) (ms : List Fields) (read : ℕ)
     (is_open : Bool) : Type 0 where
   pub tail : List ℕ

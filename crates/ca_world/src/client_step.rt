@@ -52,8 +52,8 @@ impl World {
     }
 }
 
-// A step of the end of a circuit at this client, if so many bytes wait at its server. If there is
-// no memory for it an end that takes no message rests.
+// A step of the end of a circuit at this client, while `waiting` bytes wait at its server. If there
+// is no memory for it an end that takes no message rests.
 fn step_or_rest(
     client: usize,
     circuit: usize,

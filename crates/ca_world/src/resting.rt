@@ -13,7 +13,8 @@ use ca_wire::spelled_size;
 use ca_world_data::history::{Sent, Told};
 use ca_world_data::joined::Joined;
 
-/// Whether the server's end of a circuit may take a message, if so many bytes wait at its client.
+/// Whether the server's end of a circuit may take a message, while `waiting` bytes wait at its
+/// client.
 pub(crate) fn may_take(core: &ServerCore, joined: &Joined, waiting: usize) -> bool
     requires { ComesUp waiting core.now (joined_of joined.now) }
     ensures takes { result ≡ true → MayTake core.now (joined_of joined.now) }
@@ -36,14 +37,14 @@ fn came_up(up: &[Sent], place: usize, waiting: usize) -> bool
     if place >= up.len() {
         return false;
     }
-    if left_over(&up[place + 1..], waiting) > 0 {
+    if left_over_up(&up[place + 1..], waiting) > 0 {
         return false;
     }
     true
 }
 
-// How many of so many bytes are left over if these messages are taken off.
-fn left_over(messages: &[Sent], waiting: usize) -> usize
+// How many of `waiting` bytes are left over if these messages of a client are taken off.
+fn left_over_up(messages: &[Sent], waiting: usize) -> usize
     ensures { result ≡ waiting - bytes_up messages.now }
 {
     let mut left = waiting;
@@ -53,7 +54,8 @@ fn left_over(messages: &[Sent], waiting: usize) -> usize
     left
 }
 
-/// Whether the client's end of a circuit may take a message, if so many bytes wait at its server.
+/// Whether the client's end of a circuit may take a message, while `waiting` bytes wait at its
+/// server.
 pub(crate) fn may_hear(joined: &Joined, waiting: usize) -> bool
     ensures hears { (core : Client) → ComesDown waiting core (joined_of joined.now)
         → result ≡ true → MayHear core (joined_of joined.now) }
@@ -80,7 +82,7 @@ fn came_down(down: &[Told], place: usize, waiting: usize) -> bool
     true
 }
 
-// How many of so many bytes are left over if these messages of a server are taken off.
+// How many of `waiting` bytes are left over if these messages of a server are taken off.
 fn left_over_down(messages: &[Told], waiting: usize) -> usize
     ensures { result ≡ waiting - bytes_down messages.now }
 {

@@ -107,8 +107,8 @@ impl World {
     }
 }
 
-// A step of the end of a circuit at this server, if so many bytes wait at its client. If there is
-// no memory for it an end that takes no message rests.
+// A step of the end of a circuit at this server, while `waiting` bytes wait at its client. If there
+// is no memory for it an end that takes no message rests.
 fn step_or_rest(
     alloc: Global,
     circuit: usize,
@@ -150,8 +150,8 @@ fn step_or_rest(
     }
 }
 
-// The same step, which lacks memory whatever the end would do. All that needs memory, except the
-// replies, is made before it.
+// A step of the end of a circuit at this server, which may lack memory though it takes no message.
+// All that needs memory, except the replies, is made before it.
 fn step_at(
     alloc: Global,
     circuit: usize,

@@ -188,7 +188,7 @@ impl World {
         Ok(())
     }
 
-    // The same of a new record.
+    // What a new record is for which there is no memory: nothing, if the server refuses it.
     fn lack_addition(&self, server: usize, addition: &Addition) -> Result<(), Refusal>
         requires { IsServer self.now server }
         ensures { Does
