@@ -96,7 +96,7 @@ module _ (w new : World) (i : ℕ) (x : ClientSide) (at : At w.clients i x) (s :
     | inr did ↦
         let was = s.sound i x at in
         let names : Names = record x.names { writes = x.names.writes + 1 } in
-        let o : Outcomes = record { core = did.2; names = names; lines = history.Called (history.On c (history.Request history.Write x.names.writes)) (Some e) ∷ []; sent = did.1 } in
+        let o : Outcomes = record { core = did.2; names = names; lines = history.Called (history.On c (history.Request history.Write x.names.writes)) (history.ToWrite e) ∷ []; sent = did.1 } in
         subst (λ (v : World). ClientsStand v) (sym did.4)
         (stands-called w i x x.names o at
         (sound-sending names x.core did.2 (write_sent h did.3.0 e ∷ []) did.3.3.1 (record { named = named-wrote x.names x.core (x.names.writes + 1) was.named; placed = was.placed }))
@@ -113,7 +113,7 @@ module _ (w new : World) (i : ℕ) (x : ClientSide) (at : At w.clients i x) (s :
         let intent : Intent = history.On c (history.Subscribe (length x.names.subscriptions)) in
         let names : Names = with_subscription q intent x.names in
         let was = s.sound i x at in
-        let o : Outcomes = record { core = did.2; names = names; lines = history.Called intent None ∷ []; sent = did.1 } in
+        let o : Outcomes = record { core = did.2; names = names; lines = history.Called intent (history.ToWatch data_type count mask) ∷ []; sent = did.1 } in
         let z : Client = record x.core { subscriptions = with_held q d x.core.subscriptions } in
         subst (λ (v : World). ClientsStand v) (sym did.4)
         (stands-called w i x names o at
@@ -125,7 +125,7 @@ module _ (w new : World) (i : ℕ) (x : ClientSide) (at : At w.clients i x) (s :
   stands-unsubscribe g happens = elim happens [
     | inl refusal ↦ stands-refused w new i x refusal.0 refusal.3 s
     | inr did ↦
-        let o : Outcomes = record { core = did.2; names = x.names; lines = history.Called (cancelled g.1) None ∷ []; sent = did.1 } in
+        let o : Outcomes = record { core = did.2; names = x.names; lines = history.Called (cancelled g.1) history.Nothing ∷ []; sent = did.1 } in
         subst (λ (v : World). ClientsStand v) (sym did.4)
         (stands-kept w i x o at refl
         (subst (λ (v : Client). Keeps x.core v) (sym did.3.3.1) (keeps-then x.core _ _ (keeps-unsubscribed g.0 x.core did.3.0 did.3.1) (keeps-sending (cancel_sent g.0 did.3.0 (standing_at x.core did.3.0.channel)) _))) s)
@@ -135,7 +135,7 @@ module _ (w new : World) (i : ℕ) (x : ClientSide) (at : At w.clients i x) (s :
   stands-clear c h happens = elim happens [
     | inl refusal ↦ stands-refused w new i x refusal.0 refusal.3 s
     | inr did ↦
-        let o : Outcomes = record { core = did.2; names = x.names; lines = history.Called (history.On c history.Clear) None ∷ lines_of history.OfCircuit x.names did.0; sent = did.1 } in
+        let o : Outcomes = record { core = did.2; names = x.names; lines = history.Called (history.On c history.Clear) history.Nothing ∷ lines_of history.OfCircuit x.names did.0; sent = did.1 } in
         subst (λ (v : World). ClientsStand v) (sym did.4)
         (stands-kept w i x o at refl
         (subst (λ (v : Client). Keeps x.core v) (sym did.3.3.1) (keeps-then x.core _ _ (keeps-cleared h did.3.0 x.core (s.sound i x at).placed did.3.1) (keeps-sending (clearing_sent h did.3.0) _))) s)

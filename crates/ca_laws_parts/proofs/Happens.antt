@@ -1,5 +1,5 @@
 -- The calls of a client as events of a world: what is held of each circuit stays so.
-use Rattle.std.proofs.Common.{ℕ, ◌+◌, List, [], ◌∷◌, Some, None, inl, inr, sym, subst}
+use Rattle.std.proofs.Common.{ℕ, ◌+◌, List, [], ◌∷◌, inl, inr, sym, subst}
 use Rattle.std.specs.Prelude.{length}
 use Rattle.ca_text.specs.Place.{At}
 use Rattle.ca_arena.specs.declared.handle.Handle.{Handle}
@@ -22,7 +22,7 @@ keeps-read kept w new i k c x h data_type count at given happens held = elim hap
   | inr did ↦
       let q : Handle = did.0 in
       let now : Names = with_request q (history.On c (history.Request history.Read (length x.names.requests))) x.names in
-      let o : Outcomes = record { core = did.2; names = now; lines = history.Called (history.On c (history.Request history.Read (length x.names.requests))) None ∷ []; sent = did.1 } in
+      let o : Outcomes = record { core = did.2; names = now; lines = history.Called (history.On c (history.Request history.Read (length x.names.requests))) (history.ToRead data_type count) ∷ []; sent = did.1 } in
       subst (λ (v : World). HeldAt kept v k) (sym did.4) (after-call kept w i k x now o at (λ j there mine was. read-held kept i x.names x.core did.2 j h (record { data_type = data_type; count = count }) q did.1 c (length x.names.requests) given did.3 was mine) held)
 ]
 
@@ -32,7 +32,7 @@ keeps-write-notify kept w new i k c x h e at given happens held = elim happens [
   | inr did ↦
       let q : Handle = did.0 in
       let now : Names = with_request q (history.On c (history.Request history.Put (length x.names.requests))) x.names in
-      let o : Outcomes = record { core = did.2; names = now; lines = history.Called (history.On c (history.Request history.Put (length x.names.requests))) (Some e) ∷ []; sent = did.1 } in
+      let o : Outcomes = record { core = did.2; names = now; lines = history.Called (history.On c (history.Request history.Put (length x.names.requests))) (history.ToWrite e) ∷ []; sent = did.1 } in
       subst (λ (v : World). HeldAt kept v k) (sym did.4) (after-call kept w i k x now o at (λ j there mine was. put-held kept i x.names x.core did.2 j h e q did.1 c (length x.names.requests) given did.3 was mine) held)
 ]
 
@@ -42,7 +42,7 @@ keeps-write kept w new i k c x h e at happens held = elim happens [
   | inr did ↦
       let q : Unit {0} = did.0 in
       let now : Names = x.names in
-      let o : Outcomes = record { core = did.2; names = record x.names { writes = x.names.writes + 1 }; lines = history.Called (history.On c (history.Request history.Write x.names.writes)) (Some e) ∷ []; sent = did.1 } in
+      let o : Outcomes = record { core = did.2; names = record x.names { writes = x.names.writes + 1 }; lines = history.Called (history.On c (history.Request history.Write x.names.writes)) (history.ToWrite e) ∷ []; sent = did.1 } in
       subst (λ (v : World). HeldAt kept v k) (sym did.4) (after-call kept w i k x now o at (λ j there mine was. more-writes kept x.names did.2 (sent_to i x.names did.1 j) (x.names.writes + 1) (write-held kept i x.names x.core did.2 j h e did.1 did.3 was mine)) held)
 ]
 
@@ -52,7 +52,7 @@ keeps-subscribe kept w new i k c x h data_type count mask at given happens held 
   | inr did ↦
       let q : Handle = did.0 in
       let now : Names = with_subscription q (history.On c (history.Subscribe (length x.names.subscriptions))) x.names in
-      let o : Outcomes = record { core = did.2; names = now; lines = history.Called (history.On c (history.Subscribe (length x.names.subscriptions))) None ∷ []; sent = did.1 } in
+      let o : Outcomes = record { core = did.2; names = now; lines = history.Called (history.On c (history.Subscribe (length x.names.subscriptions))) (history.ToWatch data_type count mask) ∷ []; sent = did.1 } in
       subst (λ (v : World). HeldAt kept v k) (sym did.4) (after-call kept w i k x now o at (λ j there mine was. subscribe-held kept i x.names x.core did.2 j h (record { data_type = data_type; count = count }) mask q did.1 c (length x.names.subscriptions) given did.3 was mine) held)
 ]
 
@@ -62,7 +62,7 @@ keeps-unsubscribe kept w new i k x s at meant happens held = elim happens [
   | inr did ↦
       let q : Unit {0} = did.0 in
       let now : Names = x.names in
-      let o : Outcomes = record { core = did.2; names = x.names; lines = history.Called (cancelled s.1) None ∷ []; sent = did.1 } in
+      let o : Outcomes = record { core = did.2; names = x.names; lines = history.Called (cancelled s.1) history.Nothing ∷ []; sent = did.1 } in
       subst (λ (v : World). HeldAt kept v k) (sym did.4) (after-call kept w i k x now o at (λ j there mine was. unsubscribe-held kept i x.names x.core did.2 j s.0 did.1 meant did.3 was mine) held)
 ]
 
@@ -72,6 +72,6 @@ keeps-clear kept w new i k c x h at attached happens held = elim happens [
   | inr did ↦
       let q : List Notice = did.0 in
       let now : Names = x.names in
-      let o : Outcomes = record { core = did.2; names = x.names; lines = history.Called (history.On c history.Clear) None ∷ lines_of history.OfCircuit x.names q; sent = did.1 } in
+      let o : Outcomes = record { core = did.2; names = x.names; lines = history.Called (history.On c history.Clear) history.Nothing ∷ lines_of history.OfCircuit x.names q; sent = did.1 } in
       subst (λ (v : World). HeldAt kept v k) (sym did.4) (after-call kept w i k x now o at (λ j there mine was. clear-held kept i x.names x.core did.2 j h q did.1 attached did.3 was mine) held)
 ]

@@ -17,7 +17,7 @@ use Rattle.ca_model.specs.Client.{Channel, Client, ClientCircuit, Connection, co
 use Rattle.ca_model.specs.Hears.{Effect}
 use Rattle.ca_model.specs.ClientEnds.{ConnectsOn, StepsOn, after_taking, handed_over}
 use Rattle.ca_model.specs.Ends.{Address}
-use Rattle.ca_model.specs.History.{Called, Intent, Line, Opened, Sent, Step}
+use Rattle.ca_model.specs.History.{Called, Intent, Line, Nothing, Opened, Sent, Step, ToRead, ToWatch, ToWrite, Wish}
 use Rattle.ca_model.specs.History as history
 use Rattle.ca_model.specs.Speech.{In, Is}
 use Rattle.ca_model.specs.ClientEvents.{DownTaken, HappensAccept, HappensClear, HappensClientDatagram, HappensClientRestart, HappensClientStep, HappensCutClient, HappensDown, HappensHandingOut, HappensOpen, HappensRead, HappensSubscribe, HappensUnsubscribe, HappensUp, HappensWrite, HappensWriteNotify, Outcomes, TicksOne, WantsFirst, about_at, after_tick, cancelled, channel_number, client_after, client_closed, client_ended, client_gone, client_stepped, connected_as, heard_in, left_silent, lines_of, new_circuit, refused, sent_on, closing_notices}
@@ -42,7 +42,7 @@ use Rattle.ca_laws_runs.proofs.ActsTitles.{Titled, no-one, nobody, stay-ended, t
 
 -- what a client does by itself, or by a call that gives no name
 own : (Leaves : ℕ → Joined → (k cid : ℕ) → Type 0) (gone may : Handle → Type 0) (w : World) (i : ℕ) (x : ClientSide) (spoken : Names) (o : Outcomes) (c : Client) → At w.clients i x → Tidy spoken c → spoken.channels ≡ x.names.channels → o.names.channels ≡ x.names.channels → Titled gone may x.core o.sent o.core → NoOpened o.lines
-    → ((h : Handle) → gone h → In o.lines (Called (history.On (channel_number o.names h) history.Clear) None)) → Why Leaves may w (client_after i x spoken o w) i x spoken o.sent → OnceStand w → NamesStand w
+    → ((h : Handle) → gone h → In o.lines (Called (history.On (channel_number o.names h) history.Clear) Nothing)) → Why Leaves may w (client_after i x spoken o w) i x spoken o.sent → OnceStand w → NamesStand w
     → NamesStand (client_after i x spoken o w) × ClearsBack Leaves w (client_after i x spoken o w)
 own Leaves gone may w i x spoken o c at t same now_same m none tells why once s = (
   names-called w i x spoken o at (calls-titled gone may x.names x.core spoken o.sent o.lines o.names o.core c t same now_same m none tells) once s,
@@ -56,7 +56,7 @@ NamesGo w new = NamesStand new × ClearsBack (TakesLeaving w) w new
 go-self : (w new : World) → new.circuits ≡ w.circuits → NamesStand new → NamesGo w new
 go-self w new same s = (s, clears-ups (TakesLeaving w) w new (ups-self w new same))
 
-none-cleared : (lines : List Line) (n : Names) (h : Handle) → nobody h → In lines (Called (history.On (channel_number n h) history.Clear) None)
+none-cleared : (lines : List Line) (n : Names) (h : Handle) → nobody h → In lines (Called (history.On (channel_number n h) history.Clear) Nothing)
 none-cleared lines n h own = absurd own
 
 module _ (w new : World) (i : ℕ) (x : ClientSide) (at : At w.clients i x) (q : ClientsQuiet w) (after : (y : ClientSide) → At new.clients i y → Tidy y.names y.core) (once : OnceStand w) (s : NamesStand w) where
@@ -72,7 +72,7 @@ module _ (w new : World) (i : ℕ) (x : ClientSide) (at : At w.clients i x) (q :
       subst (λ (v : World). NamesGo w v) (sym is)
       (own (TakesLeaving w) nobody nobody w i x spoken o c at t same now_same m none (none-cleared o.lines o.names) (no-why (TakesLeaving w) w (client_after i x spoken o w) i x spoken o.sent) once s)
 
-  none-called : (intent : Intent) (e : Option Elements) (rest : List Line) → NoOpened rest → NoOpened (Called intent e ∷ rest)
+  none-called : (intent : Intent) (e : Wish) (rest : List Line) → NoOpened rest → NoOpened (Called intent e ∷ rest)
   none-called intent e rest none = one-no-opened (Called intent e) rest (λ c name f. cc) none
 
   pub names-open : (name : List ℕ) (priority : ℕ) → HappensOpen w i x name priority new → NamesGo w new
@@ -95,8 +95,8 @@ module _ (w new : World) (i : ℕ) (x : ClientSide) (at : At w.clients i x) (q :
     | inr did ↦
         let intent : Intent = history.On c (history.Request history.Read (length x.names.requests)) in
         let names : Names = with_request did.0 intent x.names in
-        let o : Outcomes = record { core = did.2; names = names; lines = Called intent None ∷ []; sent = did.1 } in
-        called names o did.2 (tidy-then names o did.4) refl refl (titled-read nobody nobody no-one x.core h (record { data_type = data_type; count = count }) did.0 did.1 did.2 did.3) (none-called intent None [] no-opened) did.4
+        let o : Outcomes = record { core = did.2; names = names; lines = Called intent (ToRead data_type count) ∷ []; sent = did.1 } in
+        called names o did.2 (tidy-then names o did.4) refl refl (titled-read nobody nobody no-one x.core h (record { data_type = data_type; count = count }) did.0 did.1 did.2 did.3) (none-called intent (ToRead data_type count) [] no-opened) did.4
   ]
 
   pub names-write-notify : (c : ℕ) (h : Handle) (e : Elements) → HappensWriteNotify w i x c h e new → NamesGo w new
@@ -105,8 +105,8 @@ module _ (w new : World) (i : ℕ) (x : ClientSide) (at : At w.clients i x) (q :
     | inr did ↦
         let intent : Intent = history.On c (history.Request history.Put (length x.names.requests)) in
         let names : Names = with_request did.0 intent x.names in
-        let o : Outcomes = record { core = did.2; names = names; lines = Called intent (Some e) ∷ []; sent = did.1 } in
-        called names o did.2 (tidy-then names o did.4) refl refl (titled-put nobody nobody no-one x.core h e did.0 did.1 did.2 did.3) (none-called intent (Some e) [] no-opened) did.4
+        let o : Outcomes = record { core = did.2; names = names; lines = Called intent (ToWrite e) ∷ []; sent = did.1 } in
+        called names o did.2 (tidy-then names o did.4) refl refl (titled-put nobody nobody no-one x.core h e did.0 did.1 did.2 did.3) (none-called intent (ToWrite e) [] no-opened) did.4
   ]
 
   pub names-write : (c : ℕ) (h : Handle) (e : Elements) → HappensWrite w i x c h e new → NamesGo w new
@@ -114,8 +114,8 @@ module _ (w new : World) (i : ℕ) (x : ClientSide) (at : At w.clients i x) (q :
     | inl refusal ↦ names-refused refusal.0 refusal.3
     | inr did ↦
         let intent : Intent = history.On c (history.Request history.Write x.names.writes) in
-        let o : Outcomes = record { core = did.2; names = record x.names { writes = x.names.writes + 1 }; lines = Called intent (Some e) ∷ []; sent = did.1 } in
-        called x.names o x.core (q.tidy i x at) refl refl (titled-write-call nobody nobody no-one x.core h e did.1 did.2 did.3) (none-called intent (Some e) [] no-opened) did.4
+        let o : Outcomes = record { core = did.2; names = record x.names { writes = x.names.writes + 1 }; lines = Called intent (ToWrite e) ∷ []; sent = did.1 } in
+        called x.names o x.core (q.tidy i x at) refl refl (titled-write-call nobody nobody no-one x.core h e did.1 did.2 did.3) (none-called intent (ToWrite e) [] no-opened) did.4
   ]
 
   pub names-subscribe : (c : ℕ) (h : Handle) (data_type count mask : ℕ) → HappensSubscribe w i x c h data_type count mask new → NamesGo w new
@@ -124,16 +124,16 @@ module _ (w new : World) (i : ℕ) (x : ClientSide) (at : At w.clients i x) (q :
     | inr did ↦
         let intent : Intent = history.On c (history.Subscribe (length x.names.subscriptions)) in
         let names : Names = with_subscription did.0 intent x.names in
-        let o : Outcomes = record { core = did.2; names = names; lines = Called intent None ∷ []; sent = did.1 } in
-        called names o did.2 (tidy-then names o did.4) refl refl (titled-subscribe nobody nobody no-one x.core h (record { data_type = data_type; count = count }) mask did.0 did.1 did.2 did.3) (none-called intent None [] no-opened) did.4
+        let o : Outcomes = record { core = did.2; names = names; lines = Called intent (ToWatch data_type count mask) ∷ []; sent = did.1 } in
+        called names o did.2 (tidy-then names o did.4) refl refl (titled-subscribe nobody nobody no-one x.core h (record { data_type = data_type; count = count }) mask did.0 did.1 did.2 did.3) (none-called intent (ToWatch data_type count mask) [] no-opened) did.4
   ]
 
   pub names-unsubscribe : (g : Handle × Intent) → HappensUnsubscribe w i x g new → NamesGo w new
   names-unsubscribe g happens = elim happens [
     | inl refusal ↦ names-refused refusal.0 refusal.3
     | inr did ↦
-        let o : Outcomes = record { core = did.2; names = x.names; lines = Called (cancelled g.1) None ∷ []; sent = did.1 } in
-        called x.names o x.core (q.tidy i x at) refl refl (titled-unsubscribe nobody nobody no-one x.core g.0 did.1 did.2 did.3) (none-called (cancelled g.1) None [] no-opened) did.4
+        let o : Outcomes = record { core = did.2; names = x.names; lines = Called (cancelled g.1) Nothing ∷ []; sent = did.1 } in
+        called x.names o x.core (q.tidy i x at) refl refl (titled-unsubscribe nobody nobody no-one x.core g.0 did.1 did.2 did.3) (none-called (cancelled g.1) Nothing [] no-opened) did.4
   ]
 
   pub names-clear : (c : ℕ) (h : Handle) → channel_number x.names h ≡ c → HappensClear w i x c h new → NamesGo w new
@@ -141,20 +141,20 @@ module _ (w new : World) (i : ℕ) (x : ClientSide) (at : At w.clients i x) (q :
     | inl refusal ↦ names-refused refusal.0 refusal.3
     | inr did ↦
         let lines : List Line = lines_of history.OfCircuit x.names did.0 in
-        let o : Outcomes = record { core = did.2; names = x.names; lines = Called (history.On c history.Clear) None ∷ lines; sent = did.1 } in
+        let o : Outcomes = record { core = did.2; names = x.names; lines = Called (history.On c history.Clear) Nothing ∷ lines; sent = did.1 } in
         subst (λ (v : World). NamesGo w v) (sym did.4)
-        (own (TakesLeaving w) (λ g. g ≡ h) (λ g. g ≡ h) w i x x.names o x.core at (q.tidy i x at) refl refl (titled-clear (λ g. g ≡ h) (λ g. g ≡ h) (λ g is. is) x.core h did.0 did.1 did.2 refl did.3) (none-called (history.On c history.Clear) None lines (notices-no-opened history.OfCircuit x.names did.0))
-        (λ g is. (0, ap (λ (k : ℕ). Some (Called (history.On k history.Clear) None)) (sym number ∙ ap (channel_number x.names) (sym is))))
+        (own (TakesLeaving w) (λ g. g ≡ h) (λ g. g ≡ h) w i x x.names o x.core at (q.tidy i x at) refl refl (titled-clear (λ g. g ≡ h) (λ g. g ≡ h) (λ g is. is) x.core h did.0 did.1 did.2 refl did.3) (none-called (history.On c history.Clear) Nothing lines (notices-no-opened history.OfCircuit x.names did.0))
+        (λ g is. (0, ap (λ (k : ℕ). Some (Called (history.On k history.Clear) Nothing)) (sym number ∙ ap (channel_number x.names) (sym is))))
         (λ g is n b p r u said on mine opened at_u aims here at_s wire.
         let t = once.there i x at in
         let grown = logs-grown w.client_logs x.life o.lines t.0 t.1 in
         let now = grown.1 x.life t.0 t.1 in
-        let called : Line = Called (history.On c history.Clear) None in
+        let called : Line = Called (history.On c history.Clear) Nothing in
         let has : In now.0 called = elim (grown.0 x.life now.0 now.1) [
           | inr other ↦ absurd (other.1 refl)
           | inl grew ↦ (length grew.1.0 + 0, subst (λ (l : List Line). At l (length grew.1.0 + 0) called) (sym grew.1.2) (At-after grew.1.0 o.lines 0 called refl))
         ] in
-        inl (now.0, now.1, subst (λ (v : ℕ). In now.0 (Called (history.On v history.Clear) None)) (sym number ∙ ap (channel_number x.names) (sym is)) has)) once s)
+        inl (now.0, now.1, subst (λ (v : ℕ). In now.0 (Called (history.On v history.Clear) Nothing)) (sym number ∙ ap (channel_number x.names) (sym is)) has)) once s)
   ]
 
   pub names-handing-out : (number : ℕ) (meant : Intent) (line : Option ℕ → Line) → ((o : Option ℕ) (c : ℕ) (name : List ℕ) → line o ≡ Opened c name → ⊥) → HappensHandingOut w x number meant line new → NamesGo w new

@@ -1,7 +1,7 @@
 -- What an event leaves of the channels that clients opened, by what it leaves of one client, of
 -- logs and of circuits: each CREATE_CHAN has the name under which its channel was opened, and each
 -- channel that is cleared was by a call.
-use Rattle.std.proofs.Common.{◌≡◌, ℕ, zero, suc, ◌+◌, ◌<◌, ◌≤◌, ◌⊎◌, inl, inr, Bool, true, false, ◌&&◌, cond, eqb, List, [], ◌∷◌, ◌++◌, length, None, Some, refl, sym, ap, ◌∙◌, subst, arith}
+use Rattle.std.proofs.Common.{◌≡◌, ℕ, zero, suc, ◌+◌, ◌<◌, ◌≤◌, ◌⊎◌, inl, inr, Bool, true, false, ◌&&◌, cond, eqb, List, [], ◌∷◌, ◌++◌, length, Some, refl, sym, ap, ◌∙◌, subst, arith}
 use Rattle.std.specs.Prelude.{Contains, Ok, filter, map, not, slice_set, take}
 use Rattle.std.specs.List.{before_first, prefix_len}
 use Rattle.std.proofs.lemmas.Bool.{and_parts, both_ways, eqb-true}
@@ -16,7 +16,7 @@ use Rattle.ca_model.specs.Answers.{Aim, Notice, Sending}
 use Rattle.ca_model.specs.Answers as aim
 use Rattle.ca_model.specs.Client.{Channel, Client, Searching}
 use Rattle.ca_model.specs.ClientCalls.{ClientOpens, Opening, opened}
-use Rattle.ca_model.specs.History.{Called, Create, Intent, Line, On, OfCircuit, Opened, Sent, Subscribe}
+use Rattle.ca_model.specs.History.{Called, Create, Intent, Line, Nothing, On, OfCircuit, Opened, Sent, Subscribe}
 use Rattle.ca_model.specs.History as history
 use Rattle.ca_model.specs.Speech.{In, name_in}
 use Rattle.ca_model.proofs.Tables.{held-back, length-more}
@@ -58,7 +58,7 @@ pub record NamesStand (w : World) : Type 0 where
   pub titled : (i : ℕ) (x : ClientSide) (log : List Line) (h : Handle) (ch : Channel) → At w.clients i x → At w.client_logs x.life log → under x.core.channels h ≡ Some ch
       → In log (Opened (channel_number x.names h) ch.name) × (Contains ch.name 0 → ⊥)
   pub cleared : (i : ℕ) (x : ClientSide) (log : List Line) (h : Handle) (ch : Channel) → At w.clients i x → At w.client_logs x.life log → under x.core.channels h ≡ Some ch
-      → is_gone ch.standing ≡ true → In log (Called (On (channel_number x.names h) history.Clear) None)
+      → is_gone ch.standing ≡ true → In log (Called (On (channel_number x.names h) history.Clear) Nothing)
   pub few : (i : ℕ) (x : ClientSide) (log : List Line) (p c : ℕ) (name : List ℕ) → At w.clients i x → At w.client_logs x.life log → At log p (Opened c name) → c < length x.names.channels
   pub once : (life : ℕ) (log : List Line) (p q c : ℕ) (a b : List ℕ) → At w.client_logs life log → At log p (Opened c a) → At log q (Opened c b) → p ≡ q
   pub said : (k p a : ℕ) (j : Joined) (log : List Line) (s : Sent) → At w.circuits k j → At w.client_logs j.lists.client log → At j.lists.up p s → s.intent ≡ On a Create → In log (Opened a (name_in s.message))
@@ -68,7 +68,7 @@ pub record NamesStand (w : World) : Type 0 where
 pub record NamesCalls (n : Names) (x : Client) (spoken : Names) (sent : List Sending) (lines : List Line) (now : Names) (y : Client) : Type 0 where
   pub stay : (h : Handle) (ch : Channel) → under y.channels h ≡ Some ch
       → ((w : Channel) × (under x.channels h ≡ Some w) × (ch.name ≡ w.name) × (channel_number now h ≡ channel_number n h)
-      × (is_gone ch.standing ≡ true → (is_gone w.standing ≡ true) ⊎ In lines (Called (On (channel_number now h) history.Clear) None)))
+      × (is_gone ch.standing ≡ true → (is_gone w.standing ≡ true) ⊎ In lines (Called (On (channel_number now h) history.Clear) Nothing)))
       ⊎ (In lines (Opened (channel_number now h) ch.name) × (Contains ch.name 0 → ⊥) × (is_gone ch.standing ≡ false))
   pub creates : (i : ℕ) (s : Sending) (a : ℕ) → At sent i s → intent_of spoken s.aim ≡ On a Create
       → (h : Handle) × (w : Channel) × (under x.channels h ≡ Some w) × (a ≡ channel_number n h) × (s.message ≡ create_request (wire_of h) w.name)
@@ -149,7 +149,7 @@ create-aim n c t (aim.Cancel h g) number is = absurd (by (meant_by n.subscriptio
 
 -- a call that opens no channel
 pub calls-titled : (gone may : Handle → Type 0) (n : Names) (x : Client) (spoken : Names) (sent : List Sending) (lines : List Line) (now : Names) (y c : Client) → Tidy spoken c → spoken.channels ≡ n.channels → now.channels ≡ n.channels → Titled gone may x sent y → NoOpened lines
-    → ((h : Handle) → gone h → In lines (Called (On (channel_number now h) history.Clear) None)) → NamesCalls n x spoken sent lines now y
+    → ((h : Handle) → gone h → In lines (Called (On (channel_number now h) history.Clear) Nothing)) → NamesCalls n x spoken sent lines now y
 calls-titled gone may n x spoken sent lines now y c tidy spoken_same now_same t none tells = record {
   stay = λ h ch is. (let w = t.stay h ch is in inl (
     w.0,
@@ -285,10 +285,10 @@ module _ (w new : World) (i : ℕ) (x z : ClientSide) (spoken : Names) (sent : L
       | inr old ↦ s.cleared l y log h ch old.0 (of-others l y log old.0 old.1 there) is gone
       | inl here ↦
           let own = own-log log (subst (λ (n : ℕ). At new.client_logs n log) (ap (λ (v : ClientSide). v.life) here.1 ∙ life) there) in
-          subst (λ (v : List Line × ClientSide). In v.0 (Called (On (channel_number v.1.names h) history.Clear) None)) (λ t. (sym own.2 t, sym here.1 t))
+          subst (λ (v : List Line × ClientSide). In v.0 (Called (On (channel_number v.1.names h) history.Clear) Nothing)) (λ t. (sym own.2 t, sym here.1 t))
           (elim (calls.stay h ch (subst (λ (v : ClientSide). under v.core.channels h ≡ Some ch) here.1 is)) [
             | inl kept ↦ elim (kept.4 gone) [
-              | inl was ↦ in-more own.0 lines _ (subst (λ (v : ℕ). In own.0 (Called (On v history.Clear) None)) (sym kept.3) (s.cleared i x own.0 h kept.0 at_x own.1 kept.1 was))
+              | inl was ↦ in-more own.0 lines _ (subst (λ (v : ℕ). In own.0 (Called (On v history.Clear) Nothing)) (sym kept.3) (s.cleared i x own.0 h kept.0 at_x own.1 kept.1 was))
               | inr now ↦ (length own.0 + now.0, At-after own.0 lines now.0 _ now.1)
             ]
             | inr fresh ↦ absurd (both_ways (is_gone ch.standing) fresh.2 gone)

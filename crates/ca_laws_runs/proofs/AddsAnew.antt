@@ -54,7 +54,7 @@ use Rattle.ca_laws_runs.proofs.Created.{reached-created}
 use Rattle.ca_laws_runs.proofs.Found.{found-intent}
 use Rattle.ca_laws_runs.proofs.Joint.{are-snoc, folds-snoc, run-tells}
 use Rattle.ca_laws_runs.proofs.Lasts.{IsKept}
-use Rattle.ca_laws_runs.proofs.LastsGoing.{AllAddsCalled, AllAddsNamed, AllNamedCalled, AllStandOrEnd, ClientsLast, adds-called-on, adds-named-on, event-last, last-still, named-called-on, stand-on, ticks-last}
+use Rattle.ca_laws_runs.proofs.LastsGoing.{AllAddsCalled, AllAddsNamed, AllHeldCalled, AllStandOrEnd, ClientsLast, adds-called-on, adds-named-on, event-last, held-called-on, last-still, stand-on, ticks-last}
 use Rattle.ca_laws_runs.proofs.Live.{channels-sending, made-live}
 use Rattle.ca_laws_runs.proofs.LostRuns.{known-runs}
 use Rattle.ca_laws_runs.proofs.OnceLess.{is_gone}
@@ -280,7 +280,7 @@ module _ (w new : World) (k : ℕ) (j : Joined) (x : ClientSide) (on : At w.circ
 
         named : (g : Handle) × At x.names.subscriptions number (g, On a (Subscribe number))
         named =
-            let said = known.sent.asked x.life old.0 stood.0.0 (On a (Subscribe number)) None old.1 stood.0.1 tt in
+            let said = known.sent.asked x.life old.0 stood.0.1.0 (On a (Subscribe number)) stood.0.0 old.1 stood.0.1.1 tt in
             adds said.0 j.client said.2 a number said.1 x said.3 said.4 at said.5 said.6 said.7
 
         it : (h : Handle) × IsKept x.core named.0 h
@@ -322,14 +322,14 @@ pub record AnewStand (w : World) : Type 0 where
   pub names : AllNamedOnce w
   pub stand : AllStandOrEnd w
   pub adds : AllAddsNamed w
-  pub called : AllNamedCalled w
+  pub called : AllHeldCalled w
   pub said : AllAddsCalled w
   pub renewed : AllAnew w
 
 module _ (w new : World) (known : Known w) (now : Known new) (goes : WorldsOn w new) (uses : ClientsUse w new) (order : ClientsInOrder w)
     (lasts : ClientsLast w new) (adding : AddingBack w new) (z : AnewStand w) where
-  called-now : AllNamedCalled new
-  called-now = named-called-on w new known.once goes lasts z.called
+  called-now : AllHeldCalled new
+  called-now = held-called-on w new known.once goes lasts z.called
 
   renewed-with : AllAnew new → AnewStand new
   renewed-with renewed = record {
@@ -372,7 +372,7 @@ module _ (s : Setting) (es : List Event) (w new : World) (ok : IsSetting s) (are
   order = run-heard s es None w ok are runs
 
   lasts : ClientsLast w new
-  lasts = event-last w new e known.stands known.quiet known.once z.names happens
+  lasts = event-last w new e (more (length es + 0) e (At-after es (e ∷ []) 0 e refl)) known.stands known.quiet known.once z.names happens
 
   adding : AddingBack w new
   adding = event-says w new e known.stands known.quiet known-now.quiet known.once happens
@@ -448,7 +448,7 @@ opening-renewed s = record {
       let r = numbered-place 0 (client_begun (addresses s.servers) 0) s.clients i x at in
       absurd (none_at m (g, On a (Subscribe m)) (subst (λ (v : ClientSide). At v.names.subscriptions m (g, On a (Subscribe m))) r.2 named));
   adds = λ n i l a m c x q at. absurd (none_at n c at);
-  called = λ i m x e log at there named.
+  called = λ i m x e d log at there named row.
       let r = numbered-place 0 (client_begun (addresses s.servers) 0) s.clients i x at in
       absurd (none_at m e (subst (λ (v : ClientSide). At v.names.subscriptions m e) r.2 named));
   said = λ n k a m c q x at. absurd (none_at n c at);

@@ -6,7 +6,7 @@ use Rattle.std.proofs.lemmas.Bool.{and_parts, both_ways}
 use Rattle.ca_text.specs.Place.{At}
 use Rattle.ca_text.proofs.Places.{At-mapped, At-parts, At-set, At-snoc, some_is}
 use Rattle.ca_text.specs.declared.command.Command.TheVariants as command
-use Rattle.ca_wire.specs.Messages.{name_request, version_request}
+use Rattle.ca_wire.specs.Messages.{event_add_request, name_request, version_request}
 use Rattle.ca_arena.specs.declared.handle.Handle.{Handle}
 use Rattle.ca_dbr.specs.Elements.{Elements}
 use Rattle.ca_ids.specs.Table.{Table, held, under, with_held}
@@ -19,7 +19,7 @@ use Rattle.ca_model.specs.Answers.{Closed, Closing, NeedBytes, Notice, Notices, 
 use Rattle.ca_model.specs.Answers as aim
 use Rattle.ca_model.specs.Client.{Channel, Clearing, Client, ClientCircuit, Connecting, Connection, Creating, Doomed, Leaving, Live, On, Phase, Searching, Standing, channel_on, circuit_to, connection_at, is_on_in, later, out_bytes, sending, standing_at, with_one_sent, with_standing}
 use Rattle.ca_model.specs.Client as phase
-use Rattle.ca_model.specs.ClientCalls.{ClientSubscribes, LiveChannel, Shape, cancel_sent, clear_sent, clearing_sent, event_add_sent, event_cancel_sent, new_subscription}
+use Rattle.ca_model.specs.ClientCalls.{ClientSubscribes, LiveChannel, Shape, cancel_sent, clear_sent, clearing_sent, event_add_sent, event_cancel_sent, new_subscription, wanted_by}
 use Rattle.ca_model.specs.ClientEnds.{ConnectsOn, GivesOn, Receives, ReceivesAll, StepsOn, after_taking, creations, flow_sent, handed_over, is_connecting, of_circuit, set_up}
 use Rattle.ca_model.specs.ClientEnds as ends
 use Rattle.ca_model.specs.Ends.{Address}
@@ -56,6 +56,14 @@ use Rattle.ca_laws_runs.proofs.Stood.{IsStood}
 abbrev pub IsNoAdd : Sent → Type 0
 IsNoAdd s = (a m : ℕ) → s.intent ≡ history.On a (history.Subscribe m) → ⊥
 
+-- The message is the EVENT_ADD of the subscription, under some SID.
+abbrev pub IsAddOf : Fields → Handle → Subscription → Type 0
+IsAddOf m g d = (sid : ℕ) × (m ≡ event_add_request (wanted_by sid g d) d.mask)
+
+-- The message is that of one that is on a live channel.
+abbrev pub IsStoodAs : Client → (on g h : Handle) → Fields → Type 0
+IsStoodAs y on g h m = (it : IsStood y on g h) × IsAddOf m g it.d
+
 -- The EVENT_ADD of a subscription that is on a live channel in the new world, sent on its
 -- circuit since the other.
 pub record IsAdding (w new : World) (n k : ℕ) (s : Sent) : Type 0 where
@@ -67,6 +75,7 @@ pub record IsAdding (w new : World) (n k : ℕ) (s : Sent) : Type 0 where
   pub at : At new.clients c.client y
   pub late : length c.lists.up ≤ k
   pub stood : IsStood y.core c.at_client g h
+  pub own : IsAddOf s.message g stood.d
   pub meant : s.intent ≡ meant_by y.names.subscriptions g
   pub life : (c.lists).client ≡ y.life
 
@@ -74,10 +83,10 @@ pub record IsAdding (w new : World) (n k : ℕ) (s : Sent) : Type 0 where
 abbrev pub AddingBack : (w new : World) → Type 0
 AddingBack w new = (n : ℕ) (d : Joined) (k : ℕ) (s : Sent) → At new.circuits n d → At d.lists.up k s → IsNoAdd s ⊎ (((c : Joined) × At w.circuits n c × At c.lists.up k s) ⊎ IsAdding w new n k s)
 
--- Each of these that is for a subscription is for one that is on a channel that is
+-- Each of these that is for a subscription is the EVENT_ADD of one that is on a channel that is
 -- live on its circuit.
 abbrev AllStood : Client → List Sending → Type 0
-AllStood y sent = (i : ℕ) (s : Sending) → At sent i s → (h g : Handle) → s.aim ≡ aim.Subscribe h g → IsStood y s.circuit g h
+AllStood y sent = (i : ℕ) (s : Sending) → At sent i s → (h g : Handle) → s.aim ≡ aim.Subscribe h g → IsStoodAs y s.circuit g h s.message
 
 -- no message with this aim is for a subscription
 abbrev AllPlain : List Sending → Type 0
@@ -168,14 +177,17 @@ subscriptions-sending : (sends : List Sending) (x : Client) → (sending sends x
 subscriptions-sending [] x = refl
 subscriptions-sending (s ∷ sends) x = subscriptions-sending sends (with_one_sent x s)
 
-stood-sending : (sends : List Sending) (x : Client) (on g h : Handle) → IsStood x on g h → IsStood (sending sends x) on g h
-stood-sending sends x on g h it = record {
-  d = it.d;
-  there = subst (λ (t : Table Subscription). under t g ≡ Some it.d) (sym (subscriptions-sending sends x)) it.there;
-  stands = it.stands;
-  to = it.to;
-  live = (it.live.0, subst (λ (t : Table Channel). IsLiveAs t on h it.live.0) (sym (channels-sending sends x)) it.live.1);
-}
+stood-as-sending : (sends : List Sending) (x : Client) (on g h : Handle) (m : Fields) → IsStoodAs x on g h m → IsStoodAs (sending sends x) on g h m
+stood-as-sending sends x on g h m (it, own) = (
+  record {
+    d = it.d;
+    there = subst (λ (t : Table Subscription). under t g ≡ Some it.d) (sym (subscriptions-sending sends x)) it.there;
+    stands = it.stands;
+    to = it.to;
+    live = (it.live.0, subst (λ (t : Table Channel). IsLiveAs t on h it.live.0) (sym (channels-sending sends x)) it.live.1);
+  },
+  own,
+)
 
 -- those of a channel that is live now
 stood-adds : (x : Client) (c : Handle) (m : Fields) (k : Handle) (rights : ℕ) → channel_on x c m.p1 ≡ Some (k, Creating rights) → (let z : Client = with_standing (On c (Live (native_in m) rights)) k x in AllStood (sending (event_adds c m.p2 k x) z) (event_adds c m.p2 k x))
@@ -189,8 +201,10 @@ stood-adds x c m k rights found i s at h g is =
     let own : IsLiveAs z.channels c k m.p2 = made-live x.channels c k ch.0 (native_in m) rights ch.1 in
     let to_k : ((b.0).1).channel ≡ k = same-is ((b.0).1).channel k both.0 in
     let stood : IsStood z c (b.0).0 ((b.0).1).channel = record { d = (b.0).1; there = row; stands = both.1; to = refl; live = (m.p2, subst (λ (v : Handle). IsLiveAs z.channels c v m.p2) (sym to_k) own) } in
-    stood-sending (event_adds c m.p2 k x) z s.circuit g h
-    (subst (λ (v : Handle × Handle × Handle). IsStood z v.0 v.1 v.2) (λ j. (sym (ap (λ (v : Sending). v.circuit) b.2) j, aims.1 j, aims.0 j)) stood)
+    let message : Fields = event_add_request (wanted_by m.p2 (b.0).0 (b.0).1) ((b.0).1).mask in
+    let whole : IsStoodAs z c (b.0).0 ((b.0).1).channel message = (stood, (m.p2, refl)) in
+    stood-as-sending (event_adds c m.p2 k x) z s.circuit g h s.message
+    (subst (λ (v : Handle × Handle × Handle × Fields). IsStoodAs z v.0 v.1 v.2 v.3) (λ j. (sym (ap (λ (v : Sending). v.circuit) b.2) j, aims.1 j, aims.0 j, sym (ap (λ (v : Sending). v.message) b.2) j)) whole)
   where
     z : Client
     z = with_standing (On c (Live (native_in m) rights)) k x
@@ -456,6 +470,8 @@ says-adding w mid new i z sent ups circuits at_z stood tidy lives n d k s at the
             | inr other ↦ inl (λ a m is. (let f = add-aim z.names z.core tidy (v.2.1).aim a m (ap (λ (y : Sent). y.intent) (sym v.2.4) ∙ is) in other f.0 f.1 f.2))
             | inl adds ↦
                 let on_is : (v.2.1).circuit ≡ c.0.at_client = same-is (v.2.1).circuit b.0.at_client v.2.3 ∙ c.4 in
+                let said : IsStoodAs z.core c.0.at_client adds.1 adds.0 s.message =
+                subst (λ (o : Handle × Fields). IsStoodAs z.core o.0 adds.1 adds.0 o.1) (λ p. (on_is p, sym (ap (λ (y : Sent). y.message) v.2.4) p)) (stood v.2.0 v.2.1 v.2.2 adds.0 adds.1 adds.2) in
                 inr (inr (record {
                   c = c.0;
                   y = z;
@@ -464,7 +480,8 @@ says-adding w mid new i z sent ups circuits at_z stood tidy lives n d k s at the
                   on = c.1;
                   at = subst (λ (m : ℕ). At new.clients m z) (sym v.0 ∙ c.3) at_z;
                   late = (let e : k ≡ length b.0.lists.up + late.0 = late.1 in let f : length b.0.lists.up ≡ length c.0.lists.up = ap (λ (l : List Sent). length l) c.2 in omega (arith, e, f));
-                  stood = subst (λ (o : Handle). IsStood z.core o adds.1 adds.0) on_is (stood v.2.0 v.2.1 v.2.2 adds.0 adds.1 adds.2);
+                  stood = said.0;
+                  own = said.1;
                   life = lives n c.0 c.1 (sym c.3 ∙ v.0) (sym c.5 ∙ v.1);
                   meant = ap (λ (y : Sent). y.intent) v.2.4 ∙ ap (λ (y : aim.Aim). intent_of z.names y) adds.2;
                 }))
@@ -494,7 +511,7 @@ stood-subscribed x h a mask q sent y subscribes =
     one : AllStood (sending (s ∷ []) z) (s ∷ [])
     one i r at k g is = go i at
       where
-        go : (i : ℕ) → At (s ∷ []) i r → IsStood (sending (s ∷ []) z) r.circuit g k
+        go : (i : ℕ) → At (s ∷ []) i r → IsStoodAs (sending (s ∷ []) z) r.circuit g k r.message
         go zero there =
             let same : s ≡ r = some_is s r there in
             let aims = aim-parts h q k g (ap (λ (v : Sending). v.aim) same ∙ is) in
@@ -506,7 +523,9 @@ stood-subscribed x h a mask q sent y subscribes =
               to = refl;
               live = (l.native.sid, record { ch = f.0; native = l.native; rights = l.rights; there = f.1; stands = f.2; is = refl });
             } in
-            stood-sending (s ∷ []) z r.circuit g k (subst (λ (v : Handle × Handle × Handle). IsStood z v.0 v.1 v.2) (λ j. (ap (λ (v : Sending). v.circuit) same j, aims.1 j, aims.0 j)) stood)
+            let whole : IsStoodAs z l.circuit q h s.message = (stood, (l.native.sid, refl)) in
+            stood-as-sending (s ∷ []) z r.circuit g k r.message
+            (subst (λ (v : Handle × Handle × Handle × Fields). IsStoodAs z v.0 v.1 v.2 v.3) (λ j. (ap (λ (v : Sending). v.circuit) same j, aims.1 j, aims.0 j, ap (λ (v : Sending). v.message) same j)) whole)
         go (suc i) there = absurd cc
 
 module _ (w new : World) (i : ℕ) (x : ClientSide) (at : At w.clients i x) (q : ClientsQuiet w) (now : ClientsQuiet new) (once : OnceStand w) where

@@ -1,9 +1,9 @@
--- Each message that a client sent for a channel was called, after every run: a write with the value
--- that it carries, and a CREATE_CHAN with its name.
-use Rattle.std.proofs.Common.{◌≡◌, ℕ, inl, inr, List, Option, Some, None, refl, sym, subst}
+-- Each message that a client sent for a channel was called, after every run, for what it asks for or
+-- carries; a CREATE_CHAN has the name of its channel.
+use Rattle.std.proofs.Common.{◌≡◌, ℕ, inl, inr, List, Option, refl, sym, subst}
 use Rattle.ca_text.specs.Place.{At}
 use Rattle.ca_model.specs.Channels.{IsRequest}
-use Rattle.ca_model.specs.History.{Called, Cancel, Circuit, Clear, Create, Entry, Intent, Line, OfCircuit, On, Put, Read, Request, Sent, Subscribe, Write}
+use Rattle.ca_model.specs.History.{Called, Cancel, Circuit, Clear, Create, Entry, Intent, Line, Nothing, OfCircuit, On, Put, Read, Request, Sent, Subscribe, ToRead, ToWrite, Write}
 use Rattle.ca_model.specs.Legal.{WasCalled}
 use Rattle.ca_model.specs.Speech.{In}
 use Rattle.ca_model.specs.Events.{Event}
@@ -22,8 +22,8 @@ module _ (s : Setting) (es : List Event) (stopped : Option Event) (w : World) (o
   called : (i : Intent) → q.intent ≡ i → IsRequest i → IsCalledIn x q
   called i is asks = run-carried s es stopped w are runs n k j q x on at lx (subst (λ (z : Intent). IsRequest z) (sym is) asks)
 
-  read-called : (i : Intent) → q.intent ≡ i → IsRead i → IsCalledIn x q → In x (Called i None)
-  read-called i is reads (inl read) = subst (λ (z : Intent). In x (Called z None)) is read.1
+  read-called : (i : Intent) → q.intent ≡ i → IsRead i → IsCalledIn x q → In x (Called i (ToRead q.message.data_type q.message.count))
+  read-called i is reads (inl read) = subst (λ (z : Intent). In x (Called z (ToRead q.message.data_type q.message.count))) is read.1
   read-called i is reads (inr write) = absurd (not-both i reads (subst (λ (z : Intent). IsWrite z) is write.0))
     where
       not-both : (i : Intent) → IsRead i → IsWrite i → ⊥
@@ -42,11 +42,11 @@ module _ (s : Setting) (es : List Event) (stopped : Option Event) (w : World) (o
   message-called : (i : Intent) → q.intent ≡ i → WasCalled (circuit_of j) x k i q.message
   message-called (On a Create) is = (run-names s es stopped w runs).said n k a j x q on lx at is
   message-called (On a Clear) is = (run-ends-called s es stopped w ok are runs n k j q x on at lx).clears a is
-  message-called (On a (Request Read m)) is = read-called (On a (Request Read m)) is tt (called (On a (Request Read m)) is tt)
-  message-called (On a (Request Put m)) is = (let c = carried (On a (Request Put m)) is tt tt in (c.given, subst (λ (i : Intent). In x (Called i (Some c.given))) is c.called, c.carries))
-  message-called (On a (Request Write m)) is = (let c = carried (On a (Request Write m)) is tt tt in (c.given, subst (λ (i : Intent). In x (Called i (Some c.given))) is c.called, c.carries))
+  message-called (On a (Request Read m)) is = (ToRead q.message.data_type q.message.count, read-called (On a (Request Read m)) is tt (called (On a (Request Read m)) is tt), tt, (refl, refl))
+  message-called (On a (Request Put m)) is = (let c = carried (On a (Request Put m)) is tt tt in (ToWrite c.given, subst (λ (i : Intent). In x (Called i (ToWrite c.given))) is c.called, tt, c.carries))
+  message-called (On a (Request Write m)) is = (let c = carried (On a (Request Write m)) is tt tt in (ToWrite c.given, subst (λ (i : Intent). In x (Called i (ToWrite c.given))) is c.called, tt, c.carries))
   message-called (On a (Subscribe m)) is = (run-renewed-stand s es stopped w ok are runs).said n k a m j q x on at lx is
-  message-called (On a (Cancel m)) is = (run-ends-called s es stopped w ok are runs n k j q x on at lx).cancels a m is
+  message-called (On a (Cancel m)) is = (Nothing, (run-ends-called s es stopped w ok are runs n k j q x on at lx).cancels a m is, tt, tt)
   message-called OfCircuit is = tt
 
 pub run-called : (s : Setting) (es : List Event) (stopped : Option Event) (w : World) → IsSetting s → AreEvents es → Runs s es stopped w → MessagesWereCalled w

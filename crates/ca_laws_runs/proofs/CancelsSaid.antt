@@ -27,7 +27,7 @@ use Rattle.ca_model.specs.ClientEnds as ends
 use Rattle.ca_model.specs.Ends.{Address}
 use Rattle.ca_model.specs.Hears.{Answers, Completes, Effect, Fails, FindsAt, Hears, PutsOn, Updates, any_failed, becomes, clear_answered, confirmed, create_sent, created, doing, event_adds, failed, failing, found_at, subscription_on, left, put_on, request_failed, rights_told, searched_by, subscription_failed, write_failed}
 use Rattle.ca_model.specs.Hears as hears
-use Rattle.ca_model.specs.History.{Called, Cancel, Intent, Line, Sent, Step}
+use Rattle.ca_model.specs.History.{Called, Cancel, Intent, Line, Nothing, Sent, Step}
 use Rattle.ca_model.specs.History as history
 use Rattle.ca_model.proofs.Handles.{same-is}
 use Rattle.ca_model.proofs.Standings.{at-filter-map, found-standing, stands-as}
@@ -72,7 +72,7 @@ pub record IsCancelling (w new : World) (n k : ℕ) (s : Sent) : Type 0 where
   pub number : ℕ
   pub intent : Intent
   pub named : At x.names.subscriptions number (g, intent)
-  pub logs : new.client_logs ≡ grown x.life (Called (cancelled intent) None ∷ []) w.client_logs
+  pub logs : new.client_logs ≡ grown x.life (Called (cancelled intent) Nothing ∷ []) w.client_logs
 
 -- Each message is no EVENT_CANCEL, or was there, or is one so.
 abbrev pub CancelsBack : (w new : World) → Type 0
@@ -458,7 +458,7 @@ module _ (w new : World) (i : ℕ) (x : ClientSide) (at : At w.clients i x) (q :
       only r s zero there = sym (some_is r s there)
       only r s (suc m) there = absurd cc
 
-      by : (sent : List Sending) (d : Subscription) → (under x.core.subscriptions g.0 ≡ Some d) × (stands_in d.stage ≡ true) → new.circuits ≡ map (sent_to i x.names sent) w.circuits → new.client_logs ≡ grown x.life (Called (cancelled g.1) None ∷ []) w.client_logs → (o : Option Standing) → standing_at x.core d.channel ≡ o → sent ≡ cancel_sent g.0 d o → CancelsBack w new
+      by : (sent : List Sending) (d : Subscription) → (under x.core.subscriptions g.0 ≡ Some d) × (stands_in d.stage ≡ true) → new.circuits ≡ map (sent_to i x.names sent) w.circuits → new.client_logs ≡ grown x.life (Called (cancelled g.1) Nothing ∷ []) w.client_logs → (o : Option Standing) → standing_at x.core d.channel ≡ o → sent ≡ cancel_sent g.0 d o → CancelsBack w new
       by sent d stands circuits logs None is sent_is = silent sent circuits sent_is
       by sent d stands circuits logs (Some Searching) is sent_is = silent sent circuits sent_is
       by sent d stands circuits logs (Some (On c Connecting)) is sent_is = silent sent circuits sent_is

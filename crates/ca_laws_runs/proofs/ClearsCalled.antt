@@ -5,7 +5,7 @@ use Rattle.std.specs.List.{FoldsTo}
 use Rattle.ca_text.specs.Place.{At}
 use Rattle.ca_text.proofs.Places.{At-after, At-append, At-last, At-one}
 use Rattle.ca_wire.specs.Fields.{Fields}
-use Rattle.ca_model.specs.History.{Called, Cancel, Clear, Intent, Line, On, Sent, Step, Subscribe}
+use Rattle.ca_model.specs.History.{Called, Cancel, Clear, Intent, Line, Nothing, On, Sent, Step, Subscribe}
 use Rattle.ca_model.specs.Sends.{IsDisconnect}
 use Rattle.ca_model.specs.Speech.{In}
 use Rattle.ca_model.specs.Legal.{AnswersDisconnect}
@@ -33,8 +33,8 @@ use Rattle.ca_laws_runs.proofs.Using.{AllNamedOnce, named-meant}
 
 -- By this log a cancel was called; and a clear was, or it answers a SERVER_DISCONN.
 pub record IsEndCalled (c : Joined) (x : List Line) (k : ℕ) (s : Sent) : Type 0 where
-  pub cancels : (a number : ℕ) → s.intent ≡ On a (Cancel number) → In x (Called (On a (Cancel number)) None)
-  pub clears : (a : ℕ) → s.intent ≡ On a Clear → In x (Called (On a Clear) None) ⊎ AnswersDisconnect c.lists k s.message.p2
+  pub cancels : (a number : ℕ) → s.intent ≡ On a (Cancel number) → In x (Called (On a (Cancel number)) Nothing)
+  pub clears : (a : ℕ) → s.intent ≡ On a Clear → In x (Called (On a Clear) Nothing) ⊎ AnswersDisconnect c.lists k s.message.p2
 
 -- So it is of each message that a client sent.
 abbrev pub AllEndsCalled : World → Type 0
@@ -81,7 +81,7 @@ module _ (w new : World) (once : OnceStand w) (quiet : ClientsQuiet w) (named : 
       answers-on : (cid : ℕ) → AnswersDisconnect c.lists k cid → AnswersDisconnect d.lists k cid
       answers-on cid (j, t, h, at_t, at_h, place, lost) = (j, t, h, o.down j t at_t, o.heard j h at_h, place, lost)
 
-    cancel-now : (a number : ℕ) → s.intent ≡ On a (Cancel number) → IsCancelling w new n k s → In x (Called (On a (Cancel number)) None)
+    cancel-now : (a number : ℕ) → s.intent ≡ On a (Cancel number) → IsCancelling w new n k s → In x (Called (On a (Cancel number)) Nothing)
     cancel-now a number is z =
         let t = quiet.tidy z.c.client z.x z.at in
         let sub = t.subscribed z.number (z.g, z.intent) z.named in
@@ -90,9 +90,9 @@ module _ (w new : World) (once : OnceStand w) (quiet : ClientsQuiet w) (named : 
         let meant : cancelled z.intent ≡ On a (Cancel number) = ap cancelled (sub.1 ∙ sym m.2) ∙ sym z.meant ∙ is in
         let life : d.lists.client ≡ z.x.life = (onward n z.c d z.on at_d).client ∙ once.ends n z.c z.x z.on z.at z.opened in
         let log = once.there z.c.client z.x z.at in
-        let now : At (grown z.x.life (Called (cancelled z.intent) None ∷ []) w.client_logs) z.x.life x =
+        let now : At (grown z.x.life (Called (cancelled z.intent) Nothing ∷ []) w.client_logs) z.x.life x =
         subst (λ (v : List (List Line) × ℕ). At v.0 v.1 x) (λ i. (z.logs i, life i)) at_x in
-        subst (λ (i : Intent). In x (Called i None)) meant (in-log w.client_logs z.x.life (Called (cancelled z.intent) None) log.0 x log.1 now)
+        subst (λ (i : Intent). In x (Called i Nothing)) meant (in-log w.client_logs z.x.life (Called (cancelled z.intent) Nothing) log.0 x log.1 now)
 
     answers-now : (cid : ℕ) → TakesLeaving w n d k cid → AnswersDisconnect d.lists k cid
     answers-now cid z =
@@ -119,7 +119,7 @@ module _ (w new : World) (once : OnceStand w) (quiet : ClientsQuiet w) (named : 
           | inr answers ↦ inr (answers-on was.0 was.1 was.2 s.message.p2 answers)
         ]
         | inr (inl (inl was)) ↦ inl (was-called d.lists.client was.0 x _ was.1 at_x was.2)
-        | inr (inl (inr now)) ↦ inl (subst (λ (l : List Line). In l (Called (On a Clear) None)) (At-one new.client_logs d.lists.client now.0 x now.1 at_x) now.2)
+        | inr (inl (inr now)) ↦ inl (subst (λ (l : List Line). In l (Called (On a Clear) Nothing)) (At-one new.client_logs d.lists.client now.0 x now.1 at_x) now.2)
         | inr (inr z) ↦ inr (answers-now s.message.p2 z)
       ];
     }

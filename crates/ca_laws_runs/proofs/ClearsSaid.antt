@@ -20,7 +20,7 @@ use Rattle.ca_model.specs.ClientCalls.{clear_sent}
 use Rattle.ca_model.specs.Hears.{Effect, Hears, left}
 use Rattle.ca_model.specs.Hears as hears
 use Rattle.ca_model.specs.ClientEvents.{Outcomes, cancelled, channel_number, client_after, intent_of, meant_by, sent_on}
-use Rattle.ca_model.specs.History.{Called, Clear, Intent, Line, On, Sent, Step}
+use Rattle.ca_model.specs.History.{Called, Clear, Intent, Line, Nothing, On, Sent, Step}
 use Rattle.ca_model.specs.History as history
 use Rattle.ca_model.specs.Sends.{IsDisconnect}
 use Rattle.ca_model.specs.Speech.{In, Is}
@@ -35,7 +35,7 @@ use Rattle.ca_laws_runs.proofs.Says.{meant-at}
 
 -- The log of this life has the call that clears the channel of this number.
 abbrev pub HasCleared : List (List Line) → (life a : ℕ) → Type 0
-HasCleared logs life a = (log : List Line) × At logs life log × In log (Called (On a Clear) None)
+HasCleared logs life a = (log : List Line) × At logs life log × In log (Called (On a Clear) Nothing)
 
 -- On circuit n, which is now d, a SERVER_DISCONN for this CID was taken when k messages were sent.
 pub record TakesLeaving (w : World) (n : ℕ) (d : Joined) (k cid : ℕ) : Type 0 where
@@ -236,9 +236,9 @@ clears-own Leaves may w i x spoken o c at tidy same named why once names n d k s
           elim of.1 [
             | inl was ↦
                 let t = once.there i x at in
-                inr (inl (inl (t.0, subst (λ (l : ℕ). At w.client_logs l t.0) (sym life) t.1, subst (λ (m : ℕ). In t.0 (Called (On m Clear) None)) (sym number) (names.cleared i x t.0 h was.0 at t.1 was.1 was.2))))
+                inr (inl (inl (t.0, subst (λ (l : ℕ). At w.client_logs l t.0) (sym life) t.1, subst (λ (m : ℕ). In t.0 (Called (On m Clear) Nothing)) (sym number) (names.cleared i x t.0 h was.0 at t.1 was.1 was.2))))
             | inr now ↦ elim (why h now n b.0 v.2.0 late.0 u s b.1 v.0 v.1 v.2.2 aims.1 v.2.3 late.2 (ap (λ (z : Sent). z.message.p2) s_is ∙ of.0)) [
-              | inl called ↦ inr (inl (inr (called.0, subst (λ (l : ℕ). At (client_after i x spoken o w).client_logs l called.0) (sym life) called.1, subst (λ (m : ℕ). In called.0 (Called (On m Clear) None)) (sym number) called.2)))
+              | inl called ↦ inr (inl (inr (called.0, subst (λ (l : ℕ). At (client_after i x spoken o w).client_logs l called.0) (sym life) called.1, subst (λ (m : ℕ). In called.0 (Called (On m Clear) Nothing)) (sym number) called.2)))
               | inr leaves ↦ inr (inr (subst (λ (v : Joined × ℕ). Leaves n v.0 v.1 s.message.p2) (λ t. (sym b.2 t, sym late.1 t)) leaves))
             ]
           ]

@@ -83,7 +83,7 @@ module _ (w new : World) (i : ℕ) (x : ClientSide) (at : At w.clients i x) (tid
     | inl refusal ↦ sided-refused w new i x refusal.0 refusal.3 s
     | inr did ↦
         let names : Names = with_request did.0 (history.On c (history.Request history.Read (length x.names.requests))) x.names in
-        let o : Outcomes = record { core = did.2; names = names; lines = history.Called (history.On c (history.Request history.Read (length x.names.requests))) None ∷ []; sent = did.1 } in
+        let o : Outcomes = record { core = did.2; names = names; lines = history.Called (history.On c (history.Request history.Read (length x.names.requests))) (history.ToRead data_type count) ∷ []; sent = did.1 } in
         done names o did.4 (ways-read x.names x.core c h tidy named (stands.sound i x at).named.requests (record { data_type = data_type; count = count }) did.0 did.1 did.2 did.3) (λ g sid on l. refl)
   ]
 
@@ -92,7 +92,7 @@ module _ (w new : World) (i : ℕ) (x : ClientSide) (at : At w.clients i x) (tid
     | inl refusal ↦ sided-refused w new i x refusal.0 refusal.3 s
     | inr did ↦
         let names : Names = with_request did.0 (history.On c (history.Request history.Put (length x.names.requests))) x.names in
-        let o : Outcomes = record { core = did.2; names = names; lines = history.Called (history.On c (history.Request history.Put (length x.names.requests))) (Some e) ∷ []; sent = did.1 } in
+        let o : Outcomes = record { core = did.2; names = names; lines = history.Called (history.On c (history.Request history.Put (length x.names.requests))) (history.ToWrite e) ∷ []; sent = did.1 } in
         done names o did.4 (ways-put x.names x.core c h tidy named (stands.sound i x at).named.requests e did.0 did.1 did.2 did.3) (λ g sid on l. refl)
   ]
 
@@ -100,7 +100,7 @@ module _ (w new : World) (i : ℕ) (x : ClientSide) (at : At w.clients i x) (tid
   sided-write c h e happens = elim happens [
     | inl refusal ↦ sided-refused w new i x refusal.0 refusal.3 s
     | inr did ↦
-        let o : Outcomes = record { core = did.2; names = record x.names { writes = x.names.writes + 1 }; lines = history.Called (history.On c (history.Request history.Write x.names.writes)) (Some e) ∷ []; sent = did.1 } in
+        let o : Outcomes = record { core = did.2; names = record x.names { writes = x.names.writes + 1 }; lines = history.Called (history.On c (history.Request history.Write x.names.writes)) (history.ToWrite e) ∷ []; sent = did.1 } in
         done x.names o did.4 (ways-write x.names x.core h e did.1 did.2 did.3) (λ g sid on l. refl)
   ]
 
@@ -110,7 +110,7 @@ module _ (w new : World) (i : ℕ) (x : ClientSide) (at : At w.clients i x) (tid
     | inr did ↦
         let meant : Intent = history.On c (history.Subscribe (length x.names.subscriptions)) in
         let names : Names = with_subscription did.0 meant x.names in
-        let o : Outcomes = record { core = did.2; names = names; lines = history.Called meant None ∷ []; sent = did.1 } in
+        let o : Outcomes = record { core = did.2; names = names; lines = history.Called meant (history.ToWatch data_type count mask) ∷ []; sent = did.1 } in
         done names o did.4 (ways-subscribe x.names x.core c h tidy named (stands.sound i x at).named.subscriptions (record { data_type = data_type; count = count }) mask did.0 did.1 did.2 did.3) (λ g sid on l. refl)
   ]
 
@@ -118,7 +118,7 @@ module _ (w new : World) (i : ℕ) (x : ClientSide) (at : At w.clients i x) (tid
   sided-unsubscribe g happens = elim happens [
     | inl refusal ↦ sided-refused w new i x refusal.0 refusal.3 s
     | inr did ↦
-        let o : Outcomes = record { core = did.2; names = x.names; lines = history.Called (cancelled g.1) None ∷ []; sent = did.1 } in
+        let o : Outcomes = record { core = did.2; names = x.names; lines = history.Called (cancelled g.1) history.Nothing ∷ []; sent = did.1 } in
         let d = stands-as x.core g.0 did.3.0 did.3.1 in
         done x.names o did.4 (ways-unsubscribe x.names x.core g.0 did.3.0 tidy d.0 did.1 did.2 did.3.3.0 did.3.3.1) (λ h sid on l. refl)
   ]
@@ -127,7 +127,7 @@ module _ (w new : World) (i : ℕ) (x : ClientSide) (at : At w.clients i x) (tid
   sided-clear c h happens = elim happens [
     | inl refusal ↦ sided-refused w new i x refusal.0 refusal.3 s
     | inr did ↦
-        let o : Outcomes = record { core = did.2; names = x.names; lines = history.Called (history.On c history.Clear) None ∷ lines_of history.OfCircuit x.names did.0; sent = did.1 } in
+        let o : Outcomes = record { core = did.2; names = x.names; lines = history.Called (history.On c history.Clear) history.Nothing ∷ lines_of history.OfCircuit x.names did.0; sent = did.1 } in
         done x.names o did.4 (ways-clear x.names x.core h did.0 did.1 did.2 did.3 tidy.numbered) (λ g sid on l. refl)
   ]
 

@@ -100,7 +100,7 @@ module _ (w new : World) (i : ℕ) (x : ClientSide) (at : At w.clients i x) (sta
   quiet-unsubscribe g happens = elim happens [
     | inl refusal ↦ quiet-refused w new i x refusal.0 refusal.3 s
     | inr did ↦
-        let o : Outcomes = record { core = did.2; names = x.names; lines = history.Called (cancelled g.1) None ∷ []; sent = did.1 } in
+        let o : Outcomes = record { core = did.2; names = x.names; lines = history.Called (cancelled g.1) history.Nothing ∷ []; sent = did.1 } in
         let d = stands-as x.core g.0 did.3.0 did.3.1 in
         subst (λ (v : World). ClientsQuiet v) (sym did.4)
         (quiet-called w i x x.names o at (moved-unsubscribed x.names x.core g.0 did.3.0 (s.tidy i x at) d.0 (standing-stage (did.3.0).stage d.1) did.1 did.2 did.3.3.0 did.3.3.1) s)
@@ -110,7 +110,7 @@ module _ (w new : World) (i : ℕ) (x : ClientSide) (at : At w.clients i x) (sta
   quiet-clear c h happens = elim happens [
     | inl refusal ↦ quiet-refused w new i x refusal.0 refusal.3 s
     | inr did ↦
-        let o : Outcomes = record { core = did.2; names = x.names; lines = history.Called (history.On c history.Clear) None ∷ lines_of history.OfCircuit x.names did.0; sent = did.1 } in
+        let o : Outcomes = record { core = did.2; names = x.names; lines = history.Called (history.On c history.Clear) history.Nothing ∷ lines_of history.OfCircuit x.names did.0; sent = did.1 } in
         subst (λ (v : World). ClientsQuiet v) (sym did.4) (quiet-called w i x x.names o at (moved-cleared x.names x.core h did.0 did.1 did.2 did.3 (s.tidy i x at)) s)
   ]
 

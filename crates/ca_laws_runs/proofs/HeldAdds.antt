@@ -8,7 +8,7 @@ use Rattle.ca_text.specs.Place.{At}
 use Rattle.ca_text.proofs.Places.{At-mapped, At-one, At-or, At-set, At-snoc, At-within}
 use Rattle.ca_dbr.specs.declared.value.Outcome.{Outcome}
 use Rattle.ca_arena.specs.declared.handle.Handle.{Handle}
-use Rattle.ca_model.specs.History.{Called, Cancel, Circuit, Clear, Line, Noticed, On, Sent, Step, Subscribe}
+use Rattle.ca_model.specs.History.{Called, Cancel, Circuit, Clear, Line, Nothing, Noticed, On, Sent, Step, Subscribe}
 use Rattle.ca_model.specs.Speech.{In}
 use Rattle.ca_model.specs.Channels.{IsHeld, Meant}
 use Rattle.ca_model.specs.ClientEvents.{heard_in}
@@ -106,8 +106,8 @@ late-event w new e happens = each-event (StepsLate w new) w new (late-grown w ne
 -- By these lines the caller ended neither the subscription nor its channel, and no
 -- notice told of its end.
 pub record KeptBy (y : List Line) (a m : ℕ) : Type 0 where
-  pub cleared : In y (Called (On a Clear) None) → ⊥
-  pub cancelled : In y (Called (On a (Cancel m)) None) → ⊥
+  pub cleared : In y (Called (On a Clear) Nothing) → ⊥
+  pub cancelled : In y (Called (On a (Cancel m)) Nothing) → ⊥
   pub told : (o : Outcome) → In y (Noticed (On a (Subscribe m)) o) → ⊥
 
 take-in : (k : ℕ) (xs : List Line) (i : ℕ) (l : Line) → At (take k xs) i l → At xs i l
@@ -118,8 +118,8 @@ take-in (suc k) (y ∷ xs) (suc i) l at = take-in k xs i l at
 
 kept-take : (k : ℕ) (x : List Line) (a m : ℕ) → KeptBy x a m → KeptBy (take k x) a m
 kept-take k x a m kept = record {
-  cleared = λ i. kept.cleared (i.0, take-in k x i.0 (Called (On a Clear) None) i.1);
-  cancelled = λ i. kept.cancelled (i.0, take-in k x i.0 (Called (On a (Cancel m)) None) i.1);
+  cleared = λ i. kept.cleared (i.0, take-in k x i.0 (Called (On a Clear) Nothing) i.1);
+  cancelled = λ i. kept.cancelled (i.0, take-in k x i.0 (Called (On a (Cancel m)) Nothing) i.1);
   told = λ o i. kept.told o (i.0, take-in k x i.0 (Noticed (On a (Subscribe m)) o) i.1);
 }
 

@@ -1,6 +1,6 @@
 -- A subscription that is on a live channel is held by its client's log, of every run: its caller
 -- ended neither it nor its channel, and nothing was told of its end.
-use Rattle.std.proofs.Common.{◌≡◌, ℕ, List, Option, Some, None, true, false, refl, sym, ap, ◌∙◌, subst}
+use Rattle.std.proofs.Common.{◌≡◌, ℕ, List, Option, Some, true, false, refl, sym, ap, ◌∙◌, subst}
 use Rattle.std.proofs.lemmas.Bool.{both_ways}
 use Rattle.ca_text.specs.Place.{At}
 use Rattle.ca_text.proofs.Places.{At-one}
@@ -8,7 +8,7 @@ use Rattle.ca_arena.specs.declared.handle.Handle.{Handle}
 use Rattle.ca_dbr.specs.declared.value.Outcome.{Outcome}
 use Rattle.ca_ids.specs.Table.{under}
 use Rattle.ca_monitor.specs.Subscriptions.{Subscription, stands_in}
-use Rattle.ca_model.specs.History.{Called, Cancel, Clear, Intent, Line, Noticed, On, Subscribe}
+use Rattle.ca_model.specs.History.{Called, Cancel, Clear, Intent, Line, Nothing, Noticed, On, Subscribe}
 use Rattle.ca_model.specs.Speech.{In}
 use Rattle.ca_model.specs.Channels.{IsHeld}
 use Rattle.ca_model.specs.ClientEvents.{channel_number, meant_by}
@@ -47,16 +47,16 @@ module _ (w : World) (quiet : ClientsQuiet w) (once : OnceStand w) (told : ToldS
   own : (e : Handle × Intent) → At x.names.subscriptions m e → under x.core.subscriptions e.0 ≡ Some d
   own e named = subst (λ (v : Handle × Intent). under x.core.subscriptions v.0 ≡ Some d) (At-one x.names.subscriptions m (g, On a (Subscribe m)) e name named) there
 
-  not-cleared : In log (Called (On a Clear) None) → ⊥
+  not-cleared : In log (Called (On a Clear) Nothing) → ⊥
   not-cleared called =
-      let u = once.called i x log called.0 (On a Clear) None at at_log called.1 in
+      let u = once.called i x log called.0 (On a Clear) Nothing at at_log called.1 in
       let same : u.0 ≡ d.channel = At-one x.names.channels a u.0 d.channel u.1 (tidy.subscriptions g d there).1 in
       let gone : is_gone (live.ch).standing ≡ true = u.2 live.ch (subst (λ (h : Handle). under x.core.channels h ≡ Some live.ch) (sym same) live.there) in
       both_ways false refl (ap is_gone (sym live.stands) ∙ gone)
 
-  not-cancelled : In log (Called (On a (Cancel m)) None) → ⊥
+  not-cancelled : In log (Called (On a (Cancel m)) Nothing) → ⊥
   not-cancelled called =
-      let u = once.called i x log called.0 (On a (Cancel m)) None at at_log called.1 in
+      let u = once.called i x log called.0 (On a (Cancel m)) Nothing at at_log called.1 in
       both_ways (stands_in d.stage) (u.2 d (own u.0 u.1)) stands
 
   not-told : (o : Outcome) → In log (Noticed (On a (Subscribe m)) o) → ⊥

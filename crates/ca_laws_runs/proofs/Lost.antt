@@ -1,6 +1,6 @@
 -- What is told to be lost is lost: its circuit has ended at the client, its channel was cleared
 -- before, or the SERVER_DISCONN for its channel was read.
-use Rattle.std.proofs.Common.{◌≡◌, ℕ, ◌+◌, ◌<◌, ◌≤◌, ◌⊎◌, inl, inr, false, true, List, ◌++◌, length, Some, None, refl, sym, ap, ◌∙◌, subst, arith}
+use Rattle.std.proofs.Common.{◌≡◌, ℕ, ◌+◌, ◌<◌, ◌≤◌, ◌⊎◌, inl, inr, false, true, List, ◌++◌, length, Some, refl, sym, ap, ◌∙◌, subst, arith}
 use Rattle.std.specs.Prelude.{take}
 use Rattle.ca_text.specs.Place.{At}
 use Rattle.ca_text.specs.declared.command.Command.TheVariants as command
@@ -17,7 +17,7 @@ use Rattle.ca_model.specs.Answers as notice
 use Rattle.ca_model.specs.Client.{Live}
 use Rattle.ca_model.specs.ClientEnds.{after_taking}
 use Rattle.ca_model.specs.Hears.{Effect}
-use Rattle.ca_model.specs.History.{Ask, Called, Clear, Create, Intent, Line, Noticed, OfCircuit, On, Removal, Sent, Step, Told}
+use Rattle.ca_model.specs.History.{Ask, Called, Clear, Create, Intent, Line, Nothing, Noticed, OfCircuit, On, Removal, Sent, Step, Told}
 use Rattle.ca_model.specs.History as history
 use Rattle.ca_model.specs.Speech.{Cid, In, Is, Speaks}
 use Rattle.ca_model.specs.Channels.{IsLost, Suits}
@@ -65,7 +65,7 @@ pub record IsLostIn (w : World) (life : ℕ) (x : List Line) (i : ℕ) (intent :
   pub is : intent ≡ On a ask
   pub s : Sent
   pub meant : At c.lists.up k s × (s.intent ≡ intent)
-  pub why : (c.lists.client_open ≡ false) ⊎ (In (take i x) (Called (On a Clear) None) ⊎ IsLeftIn c k a i)
+  pub why : (c.lists.client_open ≡ false) ⊎ (In (take i x) (Called (On a Clear) Nothing) ⊎ IsLeftIn c k a i)
 
 -- it stays so
 pub lost-on : (w new : World) → WorldsOn w new → (life : ℕ) (x more : List Line) (i : ℕ) (intent : Intent) → i < length x → IsLostIn w life x i intent → IsLostIn new life (x ++ more) i intent
@@ -83,7 +83,7 @@ lost-on w new on life x more i intent within l =
       meant = (c.2.up l.k l.s l.meant.0, l.meant.1);
       why = elim l.why [
         | inl shut ↦ inl (c.2.shut shut)
-        | inr (inl cleared) ↦ inr (inl (subst (λ (v : List Line). In v (Called (On l.a Clear) None)) (sym (take-front i x more (omega (arith, within)))) cleared))
+        | inr (inl cleared) ↦ inr (inl (subst (λ (v : List Line). In v (Called (On l.a Clear) Nothing)) (sym (take-front i x more (omega (arith, within)))) cleared))
         | inr (inr left) ↦ inr (inr (left.0, left.1, left.2, c.2.down left.0 left.1 left.3, c.2.heard left.0 left.2 left.4, left.5, (left.6.0, c.2.up (left.1).place left.6.0 left.6.1, left.6.2), left.7, left.8, left.9, left.10))
       ];
     }
@@ -107,7 +107,7 @@ module _ (w new : World) (known : Known w) (on : WorldsOn w new) where
 
   -- what was meant by a request
   lost-request : (life : ℕ) (y : List Line) (i n : ℕ) (c : Joined) (x : ClientSide) (q : Handle) (r : Request) (intent : Intent) → At w.circuits n c → At w.clients c.client x → c.lists.client_open ≡ true → life ≡ x.life → under x.core.requests q ≡ Some r → was_sent_on c.at_client r ≡ true
-      → meant_by x.names.requests q ≡ intent → ((d : Joined) → At new.circuits n d → (d.lists.client_open ≡ false) ⊎ In (take i y) (Called (On (channel_number x.names r.channel) Clear) None)) → IsLostIn new life y i intent
+      → meant_by x.names.requests q ≡ intent → ((d : Joined) → At new.circuits n d → (d.lists.client_open ≡ false) ⊎ In (take i y) (Called (On (channel_number x.names r.channel) Clear) Nothing)) → IsLostIn new life y i intent
   lost-request life y i n c x q r intent at at_x opened mine there here meant why =
       let said = request-sent w known n c x q r at at_x opened there here in
       let t = (known.quiet.tidy c.client x at_x).requests q r there in
@@ -139,7 +139,7 @@ module _ (w new : World) (known : Known w) (on : WorldsOn w new) where
           let meant : meant_by p.x.names.requests away.q ≡ intent = noticed-intent (meant_by p.x.names.requests away.q) intent outcome.Disconnected outcome.Disconnected (says (notice.Completed away.q outcome.Disconnected) away.is) in
           let channel : (r.0).channel ≡ away.h = same-is (r.0).channel away.h r.2 in
           lost-request life y i o.0 o.1 p.x away.q r.0 intent o.2 at_x o.6 p.mine r.1 (subst (λ (h : Handle). same_handle (r.0).circuit h ≡ true) (sym o.4) (same-itself (r.0).circuit)) meant
-          (λ d at_d. inr (subst (λ (h : Handle). In (take i y) (Called (On (channel_number p.x.names h) Clear) None)) (sym channel) away.cleared))
+          (λ d at_d. inr (subst (λ (h : Handle). In (take i y) (Called (On (channel_number p.x.names h) Clear) Nothing)) (sym channel) away.cleared))
       by (inl cut) = from cut.from
         where
           at_x : At w.clients cut.c.client p.x

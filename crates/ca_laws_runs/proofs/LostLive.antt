@@ -15,7 +15,7 @@ use Rattle.ca_model.specs.Answers.{Notice, Sending}
 use Rattle.ca_model.specs.Answers as answer
 use Rattle.ca_model.specs.Client.{Client, Live, connection_at}
 use Rattle.ca_model.specs.ClientEnds.{StepsOn, after_taking}
-use Rattle.ca_model.specs.History.{Ask, Called, Clear, Create, Intent, Line, Noticed, OfCircuit, On, Removal, Reply, Sent, Step, Told}
+use Rattle.ca_model.specs.History.{Ask, Called, Clear, Create, Intent, Line, Nothing, Noticed, OfCircuit, On, Removal, Reply, Sent, Step, Told}
 use Rattle.ca_model.specs.Speech.{Cid, In, Speaks}
 use Rattle.ca_model.proofs.Thinner.{three-ways}
 use Rattle.ca_model.specs.ClientEvents.{TicksOne, about_at, channel_number, client_stepped, line_of, meant_by}
@@ -140,7 +140,7 @@ record IsLostLive (w : World) (life : ℕ) (x : List Line) (i a : ℕ) : Type 0 
   means : Means t.message outcome.Done
   line : At x h.logged (Noticed (On a Create) outcome.Done) × (h.logged < i)
   since : (m : ℕ) → h.logged < m → m < i → At x m (Noticed (On a Create) outcome.Disconnected) → ⊥
-  held : In (take i x) (Called (On a Clear) None) → ⊥
+  held : In (take i x) (Called (On a Clear) Nothing) → ⊥
   why : (c.lists.client_open ≡ false) ⊎ ((q : ℕ) × (u : Told) × (g : Step) × At c.lists.down q u × At c.lists.heard q g × (u.cause ≡ Removal) × (u.place ≡ t.place) × (g.logged ≤ i) × (i < g.after))
 
 -- it stays so
@@ -160,7 +160,7 @@ live-on w new on life x more i a within l =
       means = l.means;
       line = (At-append x more l.h.logged (Noticed (On a Create) outcome.Done) l.line.0, l.line.1);
       since = λ m lt lm line. l.since m lt lm (At-back x more m (Noticed (On a Create) outcome.Disconnected) line (omega (arith, within, lm)));
-      held = subst (λ (v : List Line). In v (Called (On a Clear) None) → ⊥) (sym (take-front i x more (omega (arith, within)))) l.held;
+      held = subst (λ (v : List Line). In v (Called (On a Clear) Nothing) → ⊥) (sym (take-front i x more (omega (arith, within)))) l.held;
       why = elim l.why [
         | inl shut ↦ inl (c.2.shut shut)
         | inr left ↦ inr (left.0, left.1, left.2, c.2.down left.0 left.1 left.3, c.2.heard left.0 left.2 left.4, left.5, left.6, left.7, left.8)
@@ -171,23 +171,23 @@ abbrev AllLostLive : World → Type 0
 AllLostLive w = (life : ℕ) (x : List Line) (i a : ℕ) → At w.client_logs life x → At x i (Noticed (On a Create) outcome.Disconnected) → IsLostLive w life x i a
 
 -- The caller had not cleared a channel that is live.
-not-cleared : (w : World) → Known w → (i : ℕ) (x : ClientSide) (log : List Line) (h on : Handle) (sid : ℕ) → At w.clients i x → At w.client_logs x.life log → IsLiveAs x.core.channels on h sid → In log (Called (On (channel_number x.names h) Clear) None) → ⊥
+not-cleared : (w : World) → Known w → (i : ℕ) (x : ClientSide) (log : List Line) (h on : Handle) (sid : ℕ) → At w.clients i x → At w.client_logs x.life log → IsLiveAs x.core.channels on h sid → In log (Called (On (channel_number x.names h) Clear) Nothing) → ⊥
 not-cleared w known i x log h on sid at logged live clear =
     let a : ℕ = channel_number x.names h in
-    let u = known.once.called i x log clear.0 (On a Clear) None at logged clear.1 in
+    let u = known.once.called i x log clear.0 (On a Clear) Nothing at logged clear.1 in
     let same : u.0 ≡ h = At-one x.names.channels a u.0 h u.1 ((known.quiet.tidy i x at).numbered h live.ch live.there) in
     let gone : is_gone live.ch.standing ≡ true = u.2 live.ch (subst (λ (k : Handle). under x.core.channels k ≡ Some live.ch) (sym same) live.there) in
     both_ways (is_gone live.ch.standing) (ap is_gone live.stands) gone
 
 -- nor does what is told now
-held-by : (log more : List Line) (i a : ℕ) → (In log (Called (On a Clear) None) → ⊥) → ((q : ℕ) → At more q (Called (On a Clear) None) → ⊥) → In (take i (log ++ more)) (Called (On a Clear) None) → ⊥
-held-by log more i a before fresh c = elim (At-parts log more c.0 (Called (On a Clear) None) (At-take i (log ++ more) c.0 (Called (On a Clear) None) c.1)) [
+held-by : (log more : List Line) (i a : ℕ) → (In log (Called (On a Clear) Nothing) → ⊥) → ((q : ℕ) → At more q (Called (On a Clear) Nothing) → ⊥) → In (take i (log ++ more)) (Called (On a Clear) Nothing) → ⊥
+held-by log more i a before fresh c = elim (At-parts log more c.0 (Called (On a Clear) Nothing) (At-take i (log ++ more) c.0 (Called (On a Clear) Nothing) c.1)) [
   | inl old ↦ before (c.0, old)
   | inr late ↦ fresh late.0 late.2
 ]
 
 -- a circuit goes on, on which a channel was told to be live
-lost-from : (new : World) (n : ℕ) (c d : Joined) (log more : List Line) (i life a : ℕ) → At new.circuits n d → Onward c d → c.lists.client ≡ life → length log ≤ i → (In (take i (log ++ more)) (Called (On a Clear) None) → ⊥) → (l : WasTold c log a)
+lost-from : (new : World) (n : ℕ) (c d : Joined) (log more : List Line) (i life a : ℕ) → At new.circuits n d → Onward c d → c.lists.client ≡ life → length log ≤ i → (In (take i (log ++ more)) (Called (On a Clear) Nothing) → ⊥) → (l : WasTold c log a)
     → ((d.lists.client_open ≡ false) ⊎ ((q : ℕ) × (u : Told) × (g : Step) × At d.lists.down q u × At d.lists.heard q g × (u.cause ≡ Removal) × (u.place ≡ l.t.place) × (g.logged ≤ i) × (i < g.after)))
     → ((m q : ℕ) → m ≡ length log + q → m < i → At more q (Noticed (On a Create) outcome.Disconnected) → ⊥) → IsLostLive new life (log ++ more) i a
 lost-from new n c d log more i life a at_d goes mine late held l why fresh =
@@ -264,7 +264,7 @@ module _ (w new : World) (known : Known w) (told : AllToldLive w) (created : All
               let place : i ≡ length p.log + p.place = p.late.0 in
               subst (λ (z : List Line). IsLostLive new life z i a) (sym p.whole)
               (lost-from new cut.n cut.c o.0 p.log p.lines i life a o.1 o.2 (known.lives.same cut.n cut.c p.x cut.on.0 at_x cut.on.2 ∙ sym p.mine) (omega (arith, place))
-              (held-by p.log p.lines i a (subst (λ (z : ℕ). In p.log (Called (On z Clear) None) → ⊥) number (not-cleared w known p.number p.x p.log f.0 cut.c.at_client f.2.0 p.at logged f.2.1)) (λ q at_q. (let away = p.calls q (On a Clear) None at_q in no-create away.q away.is)))
+              (held-by p.log p.lines i a (subst (λ (z : ℕ). In p.log (Called (On z Clear) Nothing) → ⊥) number (not-cleared w known p.number p.x p.log f.0 cut.c.at_client f.2.0 p.at logged f.2.1)) (λ q at_q. (let away = p.calls q (On a Clear) Nothing at_q in no-create away.q away.is)))
               l (inl (shut o.0 o.1))
               (λ m q m_is lt at_q. another f.0 cut.c.at_client f.2.0 f.1 f.2.1 number q (omega (arith, place, m_is, lt)) at_q))
 
@@ -323,7 +323,7 @@ module _ (w new : World) (k : ℕ) (j : Joined) (x : ClientSide) (on : At w.circ
       subst (λ (v : ℕ × List Line). IsLostLive new life v.1 i v.0) (λ z. (number z, sym whole z))
       (lost-from new k j now.0 log (hear-lines w new k j x on at f) i life (channel_number x.names h) now.1 goes (known.lives.same k j x on at opened ∙ sym is_mine) (omega (arith, place))
       (held-by log (hear-lines w new k j x on at f) i (channel_number x.names h) (not-cleared w known j.client x log h j.at_client l.2.0 at at_log l.2.1)
-      (λ q at_q. (let v = At-mapped (line_of (about_at j.lists (length j.lists.heard)) x.names) f.notices q (Called (On (channel_number x.names h) Clear) None) at_q in not-call (about_at j.lists (length j.lists.heard)) x.names v.0 (On (channel_number x.names h) Clear) None v.2)))
+      (λ q at_q. (let v = At-mapped (line_of (about_at j.lists (length j.lists.heard)) x.names) f.notices q (Called (On (channel_number x.names h) Clear) Nothing) at_q in not-call (about_at j.lists (length j.lists.heard)) x.names v.0 (On (channel_number x.names h) Clear) Nothing v.2)))
       was (inr (
         length j.lists.heard,
         n.t,

@@ -12,7 +12,7 @@ use Rattle.ca_model.specs.Answers.{Aim, Notice, Sending}
 use Rattle.ca_model.specs.Answers as aim
 use Rattle.ca_model.specs.Client.{Channel, Client, Clearing, Connecting, Creating, Doomed, Leaving, Live, On, Searching, Standing, connection_at, sending, standing_at, with_standing, without_channel}
 use Rattle.ca_model.specs.ClientCalls.{ClientClears, ClientOpens, ClientPuts, ClientReads, ClientSubscribes, ClientUnsubscribes, ClientWrites, IsLive, LiveChannel, Opening, Shape, all_over, cancel_sent, clear_sent, cleared, clearing_sent, event_add_sent, event_cancel_sent, issued, new_subscription, opened, put_sent, read_sent, unsubscribed, unsubscribed_all, unwanted, write_sent}
-use Rattle.ca_model.specs.History.{Called, Cancel, Clear, Create, Intent, Line, Put, Read, Subscribe, Write}
+use Rattle.ca_model.specs.History.{Called, Cancel, Clear, Create, Intent, Line, Nothing, Put, Read, Subscribe, ToRead, ToWatch, ToWrite, Wish, Write}
 use Rattle.ca_model.specs.History as history
 use Rattle.ca_model.specs.Channels.{IsRequest, IsUse}
 use Rattle.ca_model.specs.Placed.{IsPlaced, WasGiven}
@@ -98,14 +98,14 @@ NoRequest n sent = (i : ℕ) (s : Sending) → At sent i s → IsRequest (intent
 -- a subscription was sent on a circuit that is connected.
 pub record Calls (n : Names) (x : Client) (spoken : Names) (sent : List Sending) (lines : List Line) (now : Names) (y : Client) : Type 0 where
   pub olds : (intent : Intent) → IsUsed n x intent → IsUsed now y intent
-  pub lines_new : (p : ℕ) (intent : Intent) (e : Option Elements) → At lines p (Called intent e) → (p ≡ 0) × (IsUsed n x intent → ⊥) × IsUsed now y intent
+  pub lines_new : (p : ℕ) (intent : Intent) (e : Wish) → At lines p (Called intent e) → (p ≡ 0) × (IsUsed n x intent → ⊥) × IsUsed now y intent
   pub sends : NoRequest spoken sent ⊎ ((s : Sending) × (sent ≡ s ∷ []) × (IsUsed n x (intent_of spoken s.aim) → ⊥) × IsUsed now y (intent_of spoken s.aim))
-  pub asks : (p : ℕ) (intent : Intent) (e : Option Elements) → At lines p (Called intent e) → IsUse intent
+  pub asks : (p : ℕ) (intent : Intent) (e : Wish) → At lines p (Called intent e) → IsUse intent
       → (s : Sending) × (sent ≡ s ∷ []) × (intent_of spoken s.aim ≡ intent) × (is_none (connection_at x s.circuit) ≡ false)
 
 -- lines by which nothing is called
 abbrev pub NoCall : List Line → Type 0
-NoCall lines = (p : ℕ) (intent : Intent) (e : Option Elements) → At lines p (Called intent e) → ⊥
+NoCall lines = (p : ℕ) (intent : Intent) (e : Wish) → At lines p (Called intent e) → ⊥
 
 pub no-lines : NoCall []
 no-lines p intent e at = cc
@@ -159,7 +159,7 @@ calls-moved n x sent y lines t m none = record {
 
 -- ---- one line
 
-called-one : (a b : Intent) (e f : Option Elements) (p : ℕ) → At (Called a e ∷ []) p (Called b f) → (p ≡ 0) × (a ≡ b)
+called-one : (a b : Intent) (e f : Wish) (p : ℕ) → At (Called a e ∷ []) p (Called b f) → (p ≡ 0) × (a ≡ b)
 called-one a b e f zero at = (refl, intent-is (some_is (Called a e) (Called b f) at))
   where
     intent-is : Called a e ≡ Called b f → a ≡ b
@@ -193,7 +193,7 @@ calls-open n x a h sent y number name opens t = subst (λ (z : List Sending × C
     none : (i : ℕ) (s : Sending) → (let l : List Sending = [] in At l i s) → ⊥
     none i s at = cc
 
-    not-opened : (p : ℕ) (intent : Intent) (e : Option Elements) → At (history.Opened number name ∷ []) p (Called intent e) → ⊥
+    not-opened : (p : ℕ) (intent : Intent) (e : Wish) → At (history.Opened number name ∷ []) p (Called intent e) → ⊥
     not-opened zero intent e at = absurd (differ (some_is (history.Opened number name) (Called intent e) at))
       where
         differ : history.Opened number name ≡ Called intent e → ⊥
@@ -209,7 +209,7 @@ live-connected x h l placed live =
     sym (placed.waiting h f.0 l.circuit (Live l.native l.rights) f.1 f.2)
 
 -- one call, of a request that is new, and its message
-calls-asked : (n : Names) (x : Client) (spoken now : Names) (y : Client) (s : Sending) (intent : Intent) (e : Option Elements) → ((i : Intent) → IsUsed n x i → IsUsed now y i) → intent_of spoken s.aim ≡ intent → (IsUsed n x intent → ⊥) → IsUsed now y intent
+calls-asked : (n : Names) (x : Client) (spoken now : Names) (y : Client) (s : Sending) (intent : Intent) (e : Wish) → ((i : Intent) → IsUsed n x i → IsUsed now y i) → intent_of spoken s.aim ≡ intent → (IsUsed n x intent → ⊥) → IsUsed now y intent
     → is_none (connection_at x s.circuit) ≡ false → Calls n x spoken (s ∷ []) (Called intent e ∷ []) now y
 calls-asked n x spoken now y s intent e olds is fresh used linked = record {
   olds = olds;
@@ -234,7 +234,7 @@ used-issued n x y q intent less = used-more n (with_request q intent n) x y (λ 
 
 module _ (n : Names) (x : Client) (c : ℕ) (h : Handle) (placed : IsPlaced x) (given : AreGiven n.requests x.requests) where
   pub calls-read : (a : Shape) (q : Handle) (sent : List Sending) (y : Client) → ClientReads x h a (Ok q) sent y
-      → (let intent : Intent = history.On c (history.Request Read (length n.requests)) in let now : Names = with_request q intent n in Calls n x now sent (Called intent None ∷ []) now y)
+      → (let intent : Intent = history.On c (history.Request Read (length n.requests)) in let now : Names = with_request q intent n in Calls n x now sent (Called intent (ToRead a.data_type a.count) ∷ []) now y)
   calls-read a q sent y reads =
       let intent : Intent = history.On c (history.Request Read (length n.requests)) in
       let now : Names = with_request q intent n in
@@ -242,12 +242,12 @@ module _ (n : Names) (x : Client) (c : ℕ) (h : Handle) (placed : IsPlaced x) (
       let z : Client = issued h l _ q x in
       let s : Sending = read_sent h l a q in
       let less : Less x (sending (s ∷ []) z) = less-then x z (sending (s ∷ []) z) (less-same x z refl refl) (less-sending (s ∷ []) z) in
-      subst (λ (w : List Sending × Client). Calls n x now w.0 (Called intent None ∷ []) now w.1) (λ i. (sym reads.4.0 i, sym reads.4.1 i))
-      (calls-asked n x now now (sending (s ∷ []) z) s intent None (used-issued n x (sending (s ∷ []) z) q intent less) (meant-own n.requests q intent (new-name n.requests x.requests q given reads.3))
+      subst (λ (w : List Sending × Client). Calls n x now w.0 (Called intent (ToRead a.data_type a.count) ∷ []) now w.1) (λ i. (sym reads.4.0 i, sym reads.4.1 i))
+      (calls-asked n x now now (sending (s ∷ []) z) s intent (ToRead a.data_type a.count) (used-issued n x (sending (s ∷ []) z) q intent less) (meant-own n.requests q intent (new-name n.requests x.requests q given reads.3))
       (λ u. less-than-itself (length n.requests) u) (last-request n q intent) (live-connected x h l placed reads.1))
 
   pub calls-put : (e : Elements) (q : Handle) (sent : List Sending) (y : Client) → ClientPuts x h e (Ok q) sent y
-      → (let intent : Intent = history.On c (history.Request Put (length n.requests)) in let now : Names = with_request q intent n in Calls n x now sent (Called intent (Some e) ∷ []) now y)
+      → (let intent : Intent = history.On c (history.Request Put (length n.requests)) in let now : Names = with_request q intent n in Calls n x now sent (Called intent (ToWrite e) ∷ []) now y)
   calls-put e q sent y puts =
       let intent : Intent = history.On c (history.Request Put (length n.requests)) in
       let now : Names = with_request q intent n in
@@ -255,26 +255,26 @@ module _ (n : Names) (x : Client) (c : ℕ) (h : Handle) (placed : IsPlaced x) (
       let z : Client = issued h l _ q x in
       let s : Sending = put_sent h l e q in
       let less : Less x (sending (s ∷ []) z) = less-then x z (sending (s ∷ []) z) (less-same x z refl refl) (less-sending (s ∷ []) z) in
-      subst (λ (w : List Sending × Client). Calls n x now w.0 (Called intent (Some e) ∷ []) now w.1) (λ i. (sym puts.4.0 i, sym puts.4.1 i))
-      (calls-asked n x now now (sending (s ∷ []) z) s intent (Some e) (used-issued n x (sending (s ∷ []) z) q intent less) (meant-own n.requests q intent (new-name n.requests x.requests q given puts.3))
+      subst (λ (w : List Sending × Client). Calls n x now w.0 (Called intent (ToWrite e) ∷ []) now w.1) (λ i. (sym puts.4.0 i, sym puts.4.1 i))
+      (calls-asked n x now now (sending (s ∷ []) z) s intent (ToWrite e) (used-issued n x (sending (s ∷ []) z) q intent less) (meant-own n.requests q intent (new-name n.requests x.requests q given puts.3))
       (λ u. less-than-itself (length n.requests) u) (last-request n q intent) (live-connected x h l placed puts.1))
 
 -- a plain write
 pub calls-write : (n : Names) (x : Client) (c : ℕ) (h : Handle) (e : Elements) (sent : List Sending) (y : Client) → IsPlaced x → Tidy n x → At n.channels c h → ClientWrites x h e (Ok tt) sent y
-    → Calls n x n sent (Called (history.On c (history.Request Write n.writes)) (Some e) ∷ []) (record n { writes = n.writes + 1 }) y
+    → Calls n x n sent (Called (history.On c (history.Request Write n.writes)) (ToWrite e) ∷ []) (record n { writes = n.writes + 1 }) y
 calls-write n x c h e sent y placed t at writes =
     let intent : Intent = history.On c (history.Request Write n.writes) in
     let now : Names = record n { writes = n.writes + 1 } in
     let s : Sending = write_sent h writes.0 e in
     let less : Less x (sending (s ∷ []) x) = less-sending (s ∷ []) x in
-    subst (λ (w : List Sending × Client). Calls n x n w.0 (Called intent (Some e) ∷ []) now w.1) (λ i. (sym writes.3.0 i, sym writes.3.1 i))
-    (calls-asked n x n now (sending (s ∷ []) x) s intent (Some e)
+    subst (λ (w : List Sending × Client). Calls n x n w.0 (Called intent (ToWrite e) ∷ []) now w.1) (λ i. (sym writes.3.0 i, sym writes.3.1 i))
+    (calls-asked n x n now (sending (s ∷ []) x) s intent (ToWrite e)
     (used-more n now x (sending (s ∷ []) x) (λ i g at gone. (at, cleared-less x (sending (s ∷ []) x) g less gone)) (λ m u. u) (λ m u. u) (λ m e at over. (at, over-less x (sending (s ∷ []) x) e.0 less over)) (λ m u. omega (arith, u)))
     (ap (λ (k : ℕ). history.On k (history.Request Write n.writes)) (t.once c h at)) (λ u. less-than-itself n.writes u) (let lt : n.writes < n.writes + 1 = omega arith in lt) (live-connected x h writes.0 placed writes.1))
 
 -- ---- calls with messages that are no requests
 
-calls-told : (n : Names) (x : Client) (spoken : Names) (sent : List Sending) (now : Names) (y : Client) (intent : Intent) (e : Option Elements) (rest : List Line) → ((i : Intent) → IsUsed n x i → IsUsed now y i) → NoRequest spoken sent
+calls-told : (n : Names) (x : Client) (spoken : Names) (sent : List Sending) (now : Names) (y : Client) (intent : Intent) (e : Wish) (rest : List Line) → ((i : Intent) → IsUsed n x i → IsUsed now y i) → NoRequest spoken sent
     → (IsUse intent → (s : Sending) × (sent ≡ s ∷ []) × (intent_of spoken s.aim ≡ intent) × (is_none (connection_at x s.circuit) ≡ false)) → (IsUsed n x intent → ⊥) → IsUsed now y intent → NoCall rest
     → Calls n x spoken sent (Called intent e ∷ rest) now y
 calls-told n x spoken sent now y intent e rest olds plain said fresh used none = record {
@@ -286,20 +286,20 @@ calls-told n x spoken sent now y intent e rest olds plain said fresh used none =
   asks = λ p i f at r. (let c = only p i f at in let m = said (subst (λ (z : Intent). IsUse z) (sym c.1) r) in (m.0, m.1, m.2 ∙ c.1, m.3));
 }
   where
-    intent-is : (a b : Intent) (f : Option Elements) → Called a e ≡ Called b f → a ≡ b
+    intent-is : (a b : Intent) (f : Wish) → Called a e ≡ Called b f → a ≡ b
     intent-is a b f is = cc
 
-    only : (p : ℕ) (i : Intent) (f : Option Elements) → At (Called intent e ∷ rest) p (Called i f) → (p ≡ 0) × (intent ≡ i)
+    only : (p : ℕ) (i : Intent) (f : Wish) → At (Called intent e ∷ rest) p (Called i f) → (p ≡ 0) × (intent ≡ i)
     only zero i f at = (refl, intent-is intent i f (some_is (Called intent e) (Called i f) at))
     only (suc p) i f at = absurd (none p i f at)
 
 -- ---- subscribe
 
 pub calls-subscribe : (n : Names) (x : Client) (c : ℕ) (h : Handle) (a : Shape) (mask : ℕ) (q : Handle) (sent : List Sending) (y : Client) → ClientSubscribes x h a mask (Ok q) sent y → IsPlaced x → Tidy n x → AreGiven n.subscriptions x.subscriptions
-    → (let intent : Intent = history.On c (Subscribe (length n.subscriptions)) in let now : Names = with_subscription q intent n in Calls n x now sent (Called intent None ∷ []) now y)
+    → (let intent : Intent = history.On c (Subscribe (length n.subscriptions)) in let now : Names = with_subscription q intent n in Calls n x now sent (Called intent (ToWatch a.data_type a.count mask) ∷ []) now y)
 calls-subscribe n x c h a mask q sent y subscribes placed t given =
-    subst (λ (w : List Sending × Client). Calls n x now w.0 (Called intent None ∷ []) now w.1) (λ i. (sym subscribes.4.0 i, sym subscribes.4.1 i))
-    (calls-told n x now (s ∷ []) now (sending (s ∷ []) z) intent None [] (λ i u. used-less now z (sending (s ∷ []) z) (less-sending (s ∷ []) z) i (before i u))
+    subst (λ (w : List Sending × Client). Calls n x now w.0 (Called intent (ToWatch a.data_type a.count mask) ∷ []) now w.1) (λ i. (sym subscribes.4.0 i, sym subscribes.4.1 i))
+    (calls-told n x now (s ∷ []) now (sending (s ∷ []) z) intent (ToWatch a.data_type a.count mask) [] (λ i u. used-less now z (sending (s ∷ []) z) (less-sending (s ∷ []) z) i (before i u))
     plain (λ r. (s, refl, meant, live-connected x h subscribes.0 placed subscribes.1)) (λ u. less-than-itself (length n.subscriptions) u) (let more = length-more n.subscriptions (q, intent) in omega (arith, more)) no-lines)
   where
     intent : Intent
@@ -377,7 +377,7 @@ module _ (n : Names) (x : Client) (g : Handle) (d : Subscription) where
   cancel-plain (Some (On c (Live native rights))) = one-plain (event_cancel_sent c native.sid g d) refl
 
 pub calls-unsubscribe : (n : Names) (x : Client) (s : Handle × Intent) (m : ℕ) (sent : List Sending) (y : Client) → ClientUnsubscribes x s.0 (Ok tt) sent y → Tidy n x → At n.subscriptions m s
-    → Calls n x n sent (Called (cancelled s.1) None ∷ []) n y
+    → Calls n x n sent (Called (cancelled s.1) Nothing ∷ []) n y
 calls-unsubscribe n x s m sent y ends t at =
     let a = t.subscribed m s at in
     let d : Subscription = ends.0 in
@@ -386,9 +386,9 @@ calls-unsubscribe n x s m sent y ends t at =
     let z : Client = unsubscribed s.0 o x in
     let less : Less z (sending sends z) = less-sending sends z in
     let stands = stands-as x s.0 d ends.1 in
-    subst (λ (w : List Sending × Client). Calls n x n w.0 (Called (cancelled s.1) None ∷ []) n w.1) (λ i. (sym ends.3.0 i, sym ends.3.1 i))
-    (subst (λ (i : Intent). Calls n x n sends (Called i None ∷ []) n (sending sends z)) (sym (ap cancelled a.1))
-    (calls-told n x n sends n (sending sends z) (history.On a.0 (Cancel m)) None []
+    subst (λ (w : List Sending × Client). Calls n x n w.0 (Called (cancelled s.1) Nothing ∷ []) n w.1) (λ i. (sym ends.3.0 i, sym ends.3.1 i))
+    (subst (λ (i : Intent). Calls n x n sends (Called i Nothing ∷ []) n (sending sends z)) (sym (ap cancelled a.1))
+    (calls-told n x n sends n (sending sends z) (history.On a.0 (Cancel m)) Nothing []
     (used-less n x (sending sends z) (less-then x z (sending sends z) (less-unsubscribed n x s.0 d o) less))
     (plain-no-request n x t sends (cancel-plain n x s.0 d o)) (λ r. absurd r)
     (λ u.
@@ -449,15 +449,15 @@ module _ (x : Client) (h : Handle) where
   held-now (On c p) at = never-cleared x h c p at
 
 pub calls-clear : (n : Names) (x : Client) (c : ℕ) (h : Handle) (notices : List Notice) (sent : List Sending) (y : Client) (lines : List Line) → ClientClears x h (Ok notices) sent y → Tidy n x → At n.channels c h → NoCall lines
-    → Calls n x n sent (Called (history.On c Clear) None ∷ lines) n y
+    → Calls n x n sent (Called (history.On c Clear) Nothing ∷ lines) n y
 calls-clear n x c h notices sent y lines clears t at none =
     let st : Standing = clears.0 in
     let sends : List Sending = clearing_sent h st in
     let z : Client = cleared h st x in
     let less : Less z (sending sends z) = less-sending sends z in
     let found = found-standing x h st clears.1 in
-    subst (λ (w : List Sending × Client). Calls n x n w.0 (Called (history.On c Clear) None ∷ lines) n w.1) (λ i. (sym clears.3.0 i, sym clears.3.1 i))
-    (calls-told n x n sends n (sending sends z) (history.On c Clear) None lines
+    subst (λ (w : List Sending × Client). Calls n x n w.0 (Called (history.On c Clear) Nothing ∷ lines) n w.1) (λ i. (sym clears.3.0 i, sym clears.3.1 i))
+    (calls-told n x n sends n (sending sends z) (history.On c Clear) Nothing lines
     (used-less n x (sending sends z) (less-then x z (sending sends z) (less-cleared x h st) less))
     (plain-no-request n x t sends (clearing-plain x h st)) (λ r. absurd r)
     (λ u.

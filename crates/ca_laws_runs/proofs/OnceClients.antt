@@ -14,7 +14,7 @@ use Rattle.ca_model.specs.Client.{Client, ClientCircuit, Connection, connection_
 use Rattle.ca_model.specs.ClientEnds.{ConnectsOn, StepsOn, after_taking, handed_over}
 use Rattle.ca_model.specs.Hears.{Effect}
 use Rattle.ca_model.specs.Ends.{Address}
-use Rattle.ca_model.specs.History.{Called, Intent, Line, Sent, Step}
+use Rattle.ca_model.specs.History.{Called, Intent, Line, Nothing, Sent, Step, ToRead, ToWatch, ToWrite, Wish}
 use Rattle.ca_model.specs.History as history
 use Rattle.ca_model.specs.Client as client
 use Rattle.ca_model.specs.ClientEvents.{DownTaken, HappensAccept, HappensClear, HappensClientDatagram, HappensClientRestart, HappensClientStep, HappensCutClient, HappensDown, HappensHandingOut, HappensOpen, HappensRead, HappensSubscribe, HappensUnsubscribe, HappensUp, HappensWrite, HappensWriteNotify, Outcomes, TicksOne, WantsFirst, about_at, after_tick, cancelled, client_after, client_closed, client_ended, client_gone, client_stepped, connected_as, heard_in, left_silent, lines_of, new_circuit, refused, closing_notices}
@@ -64,7 +64,7 @@ module _ (w new : World) (i : ℕ) (x : ClientSide) (at : At w.clients i x) (sta
     | inr did ↦
         let intent : Intent = history.On c (history.Request history.Read (length x.names.requests)) in
         let names : Names = with_request did.0 intent x.names in
-        let o : Outcomes = record { core = did.2; names = names; lines = Called intent None ∷ []; sent = did.1 } in
+        let o : Outcomes = record { core = did.2; names = names; lines = Called intent (ToRead data_type count) ∷ []; sent = did.1 } in
         subst (λ (v : World). OnceStand v) (sym did.4)
         (once-called w i x names o at (calls-read x.names x.core c h (stands.sound i x at).placed (stands.sound i x at).named.requests (record { data_type = data_type; count = count }) did.0 did.1 did.2 did.3) (inl stands.handles) s)
   ]
@@ -75,7 +75,7 @@ module _ (w new : World) (i : ℕ) (x : ClientSide) (at : At w.clients i x) (sta
     | inr did ↦
         let intent : Intent = history.On c (history.Request history.Put (length x.names.requests)) in
         let names : Names = with_request did.0 intent x.names in
-        let o : Outcomes = record { core = did.2; names = names; lines = Called intent (Some e) ∷ []; sent = did.1 } in
+        let o : Outcomes = record { core = did.2; names = names; lines = Called intent (ToWrite e) ∷ []; sent = did.1 } in
         subst (λ (v : World). OnceStand v) (sym did.4)
         (once-called w i x names o at (calls-put x.names x.core c h (stands.sound i x at).placed (stands.sound i x at).named.requests e did.0 did.1 did.2 did.3) (inl stands.handles) s)
   ]
@@ -84,7 +84,7 @@ module _ (w new : World) (i : ℕ) (x : ClientSide) (at : At w.clients i x) (sta
   once-write c h e named happens = elim happens [
     | inl refusal ↦ once-refused w new i x refusal.0 at refusal.3 s
     | inr did ↦
-        let o : Outcomes = record { core = did.2; names = record x.names { writes = x.names.writes + 1 }; lines = Called (history.On c (history.Request history.Write x.names.writes)) (Some e) ∷ []; sent = did.1 } in
+        let o : Outcomes = record { core = did.2; names = record x.names { writes = x.names.writes + 1 }; lines = Called (history.On c (history.Request history.Write x.names.writes)) (ToWrite e) ∷ []; sent = did.1 } in
         subst (λ (v : World). OnceStand v) (sym did.4)
         (once-called w i x x.names o at (calls-write x.names x.core c h e did.1 did.2 (stands.sound i x at).placed (q.tidy i x at) named did.3) (inl stands.handles) s)
   ]
@@ -95,7 +95,7 @@ module _ (w new : World) (i : ℕ) (x : ClientSide) (at : At w.clients i x) (sta
     | inr did ↦
         let intent : Intent = history.On c (history.Subscribe (length x.names.subscriptions)) in
         let names : Names = with_subscription did.0 intent x.names in
-        let o : Outcomes = record { core = did.2; names = names; lines = Called intent None ∷ []; sent = did.1 } in
+        let o : Outcomes = record { core = did.2; names = names; lines = Called intent (ToWatch data_type count mask) ∷ []; sent = did.1 } in
         subst (λ (v : World). OnceStand v) (sym did.4)
         (once-called w i x names o at (calls-subscribe x.names x.core c h (record { data_type = data_type; count = count }) mask did.0 did.1 did.2 did.3 (stands.sound i x at).placed (q.tidy i x at) (stands.sound i x at).named.subscriptions) (inl stands.handles) s)
   ]
@@ -104,7 +104,7 @@ module _ (w new : World) (i : ℕ) (x : ClientSide) (at : At w.clients i x) (sta
   once-unsubscribe m g named happens = elim happens [
     | inl refusal ↦ once-refused w new i x refusal.0 at refusal.3 s
     | inr did ↦
-        let o : Outcomes = record { core = did.2; names = x.names; lines = Called (cancelled g.1) None ∷ []; sent = did.1 } in
+        let o : Outcomes = record { core = did.2; names = x.names; lines = Called (cancelled g.1) Nothing ∷ []; sent = did.1 } in
         subst (λ (v : World). OnceStand v) (sym did.4)
         (once-called w i x x.names o at (calls-unsubscribe x.names x.core g m did.1 did.2 did.3 (q.tidy i x at) named) (inl stands.handles) s)
   ]
@@ -114,7 +114,7 @@ module _ (w new : World) (i : ℕ) (x : ClientSide) (at : At w.clients i x) (sta
     | inl refusal ↦ once-refused w new i x refusal.0 at refusal.3 s
     | inr did ↦
         let lines : List Line = lines_of history.OfCircuit x.names did.0 in
-        let o : Outcomes = record { core = did.2; names = x.names; lines = Called (history.On c history.Clear) None ∷ lines; sent = did.1 } in
+        let o : Outcomes = record { core = did.2; names = x.names; lines = Called (history.On c history.Clear) Nothing ∷ lines; sent = did.1 } in
         subst (λ (v : World). OnceStand v) (sym did.4)
         (once-called w i x x.names o at (calls-clear x.names x.core c h did.0 did.1 did.2 lines did.3 (q.tidy i x at) named (notices-no-call history.OfCircuit x.names did.0)) (inl stands.handles) s)
   ]
@@ -297,7 +297,7 @@ once-client-restart w new i x at s happens = subst (λ (v : World). OnceStand v)
     fresh : (l : ℕ) (y : ClientSide) → At w.clients l y → y.life ≡ length w.client_logs → ⊥
     fresh l y have is = (let t = s.there l y have in not-before y.life t.0 t.1 is)
 
-    empty : (p : ℕ) (intent : Intent) (e : Option Elements) → (let log : List Line = [] in At log p (Called intent e)) → ⊥
+    empty : (p : ℕ) (intent : Intent) (e : Wish) → (let log : List Line = [] in At log p (Called intent e)) → ⊥
     empty p intent e line = cc
 
     by : (b : Bool) (a : Joined) → IsSameEnd a (cond b (client_closed (out_bytes x.core a.at_client) a) a)

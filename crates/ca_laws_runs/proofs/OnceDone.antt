@@ -8,7 +8,6 @@ use Rattle.ca_text.specs.declared.status.Status.{Status}
 use Rattle.ca_arena.specs.declared.handle.Handle.{Handle}
 use Rattle.ca_dbr.specs.declared.value.Outcome.{Outcome}
 use Rattle.ca_dbr.specs.declared.value.Outcome.TheVariants as outcome
-use Rattle.ca_dbr.specs.Elements.{Elements}
 use Rattle.ca_ids.specs.Table.{MayGive, same_handle, under, with_held}
 use Rattle.ca_monitor.specs.Subscriptions.{Subscription}
 use Rattle.ca_requests.specs.Requests.{Asked}
@@ -17,7 +16,7 @@ use Rattle.ca_model.specs.Answers.{Notice, Sending}
 use Rattle.ca_model.specs.Answers as notice
 use Rattle.ca_model.specs.Client.{Client, sending}
 use Rattle.ca_model.specs.ClientCalls.{LiveChannel, issued}
-use Rattle.ca_model.specs.History.{Called, Cancel, Clear, Create, Intent, Kind, Line, Noticed, Put, Read, Subscribe, Write}
+use Rattle.ca_model.specs.History.{Called, Cancel, Clear, Create, Intent, Kind, Line, Noticed, Put, Read, Subscribe, Wish, Write}
 use Rattle.ca_model.specs.History as history
 use Rattle.ca_model.specs.Placed.{WasGiven}
 use Rattle.ca_model.proofs.Handles.{same-is}
@@ -78,7 +77,7 @@ pub one-no-notice : (line : Line) → ((intent : Intent) (o : Outcome) → line 
 one-no-notice line none zero intent o at = none intent o (some_is line (Noticed intent o) at)
 one-no-notice line none (suc p) intent o at = cc
 
-pub called-no-notice : (intent : Intent) (e : Option Elements) → NoNotice (Called intent e ∷ [])
+pub called-no-notice : (intent : Intent) (e : Wish) → NoNotice (Called intent e ∷ [])
 called-no-notice intent e = one-no-notice (Called intent e) (λ i o is. differ i o is)
   where
     differ : (i : Intent) (o : Outcome) → Called intent e ≡ Noticed i o → ⊥

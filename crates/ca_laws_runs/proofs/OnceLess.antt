@@ -30,16 +30,20 @@ StandsLike was now = is_gone now ≡ false → is_gone was ≡ false
 abbrev pub StageLike : (was now : Stage) → Type 0
 StageLike was now = stands_in now ≡ true → stands_in was ≡ true
 
--- Nothing new is held.
+-- A subscription is for the same type, count and mask.
+abbrev pub AsksAlike : (was now : Subscription) → Type 0
+AsksAlike was now = (now.data_type ≡ was.data_type) × (now.count ≡ was.count) × (now.mask ≡ was.mask)
+
+-- Nothing new is held, and each subscription is for the same.
 pub record Less (x y : Client) : Type 0 where
   pub channels : (h : Handle) (ch : Channel) → under y.channels h ≡ Some ch → (w : Channel) × (under x.channels h ≡ Some w) × StandsLike w.standing ch.standing
-  pub subscriptions : (g : Handle) (d : Subscription) → under y.subscriptions g ≡ Some d → (e : Subscription) × (under x.subscriptions g ≡ Some e) × StageLike e.stage d.stage
+  pub subscriptions : (g : Handle) (d : Subscription) → under y.subscriptions g ≡ Some d → (e : Subscription) × (under x.subscriptions g ≡ Some e) × StageLike e.stage d.stage × AsksAlike e d
 
 pub same-channels : (t : Table Channel) (h : Handle) (ch : Channel) → under t h ≡ Some ch → (w : Channel) × (under t h ≡ Some w) × StandsLike w.standing ch.standing
 same-channels t h ch is = (ch, is, λ i. i)
 
-pub same-subscriptions : (t : Table Subscription) (g : Handle) (d : Subscription) → under t g ≡ Some d → (e : Subscription) × (under t g ≡ Some e) × StageLike e.stage d.stage
-same-subscriptions t g d is = (d, is, λ i. i)
+pub same-subscriptions : (t : Table Subscription) (g : Handle) (d : Subscription) → under t g ≡ Some d → (e : Subscription) × (under t g ≡ Some e) × StageLike e.stage d.stage × AsksAlike e d
+same-subscriptions t g d is = (d, is, λ i. i, (refl, refl, refl))
 
 pub less-then : (x y z : Client) → Less x y → Less y z → Less x z
 less-then x y z a b = record {
@@ -50,7 +54,7 @@ less-then x y z a b = record {
   subscriptions = λ g d is.
       let v = b.subscriptions g d is in
       let w = a.subscriptions g v.0 v.1 in
-      (w.0, w.1, λ i. w.2 (v.2 i));
+      (w.0, w.1, λ i. w.2 (v.2 i), (v.3.0 ∙ w.3.0, v.3.1 ∙ w.3.1, v.3.2 ∙ w.3.2));
 }
 
 -- ---- one table changes
@@ -101,7 +105,7 @@ less-gone h x = record {
 pub less-requests : (t : Table Request) (x : Client) → Less x (with_requests t x)
 less-requests t x = less-same x (with_requests t x) refl refl
 
-pub less-subscriptions : (t : Table Subscription) (x : Client) → ((g : Handle) (d : Subscription) → under t g ≡ Some d → (e : Subscription) × (under x.subscriptions g ≡ Some e) × StageLike e.stage d.stage) → Less x (record x { subscriptions = t })
+pub less-subscriptions : (t : Table Subscription) (x : Client) → ((g : Handle) (d : Subscription) → under t g ≡ Some d → (e : Subscription) × (under x.subscriptions g ≡ Some e) × StageLike e.stage d.stage × AsksAlike e d) → Less x (record x { subscriptions = t })
 less-subscriptions t x were = record { channels = same-channels x.channels; subscriptions = were }
 
 -- ---- messages that wait
@@ -128,6 +132,7 @@ less-staged stage g x ends = less-subscriptions (with_stage stage g x.subscripti
     own.1.0,
     subst (λ (v : Handle). under x.subscriptions v ≡ Some own.1.0) (sym own.0) own.1.1,
     λ i. absurd (both_ways (stands_in stage) ends (ap (λ (z : Subscription). stands_in z.stage) (sym own.1.2) ∙ i)),
+    (ap (λ (z : Subscription). z.data_type) own.1.2, ap (λ (z : Subscription). z.count) own.1.2, ap (λ (z : Subscription). z.mask) own.1.2),
   )
   | inr old ↦ same-subscriptions x.subscriptions k d old.1
 ])
@@ -139,9 +144,17 @@ over-like c (Ended o) i = i
 
 pub less-over-subscriptions : (c h : Handle) (x : Client) → Less x (record x { subscriptions = monitor.channel_over c h x.subscriptions })
 less-over-subscriptions c h x = less-subscriptions _ x (λ g d is.
-    let was = all-back (monitor.over_on c h) x.subscriptions g d is in
-    (was.0, was.1, λ i. go was.0 (is_to h was.0) (ap (λ (z : Subscription). stands_in z.stage) (sym was.2) ∙ i)))
+    let was = all-back (monitor.over_on c h) x.subscriptions g d is in (
+      was.0,
+      was.1,
+      λ i. go was.0 (is_to h was.0) (ap (λ (z : Subscription). stands_in z.stage) (sym was.2) ∙ i),
+      subst (λ (z : Subscription). AsksAlike was.0 z) (sym was.2) (alike was.0 (is_to h was.0)),
+    ))
   where
+    alike : (s : Subscription) (b : Bool) → AsksAlike s (cond b (record s { stage = stage_over c s.stage }) s)
+    alike s true = (refl, refl, refl)
+    alike s false = (refl, refl, refl)
+
     go : (s : Subscription) (b : Bool) → StageLike s.stage (cond b (record s { stage = stage_over c s.stage }) s).stage
     go s true i = over-like c s.stage i
     go s false i = i

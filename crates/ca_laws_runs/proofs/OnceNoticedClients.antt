@@ -17,7 +17,7 @@ use Rattle.ca_model.specs.ClientCalls.{cancel_sent, clearing_sent, event_add_sen
 use Rattle.ca_model.specs.ClientEnds.{ConnectsOn, StepsOn, Ticking, after_taking, circuits_ticked, handed_over}
 use Rattle.ca_model.specs.Hears.{Effect}
 use Rattle.ca_model.specs.Ends.{Address}
-use Rattle.ca_model.specs.History.{Called, Intent, Line, Noticed, Step}
+use Rattle.ca_model.specs.History.{Called, Intent, Line, Nothing, Noticed, Step, ToRead, ToWatch, ToWrite, Wish}
 use Rattle.ca_model.specs.History as history
 use Rattle.ca_model.specs.ClientEvents.{DownTaken, HappensAccept, HappensClear, HappensClientDatagram, HappensClientRestart, HappensClientStep, HappensCutClient, HappensDown, HappensHandingOut, HappensOpen, HappensRead, HappensSubscribe, HappensUnsubscribe, HappensUp, HappensWrite, HappensWriteNotify, Outcomes, TicksOne, WantsFirst, about_at, after_tick, cancelled, client_after, client_closed, client_ended, client_stepped, connected_as, heard_in, lines_of, new_circuit, refused, closing_notices}
 use Rattle.ca_model.specs.World.{ClientSetting, ClientSide, Joined, Names, ServerSide, World, addresses, client_begun, log_length, with_circuit, with_client, with_server}
@@ -62,7 +62,7 @@ gave-up-no-notice r o = one-no-notice (history.GaveUp r o) (λ intent p is. diff
     differ : (intent : Intent) (p : Outcome) → history.GaveUp r o ≡ Noticed intent p → ⊥
     differ intent p is = cc
 
-called-differs : (called : Intent) (e : Option Elements) (intent : Intent) (o : Outcome) → Called called e ≡ Noticed intent o → ⊥
+called-differs : (called : Intent) (e : Wish) (intent : Intent) (o : Outcome) → Called called e ≡ Noticed intent o → ⊥
 called-differs called e intent o is = cc
 
 asks-unsubscribed : (x : Client) (g : Handle) (o : Option Standing) → Asks x (unsubscribed g o x)
@@ -107,12 +107,12 @@ module _ (w new : World) (i : ℕ) (x : ClientSide) (at : At w.clients i x) (sta
     | inr did ↦
         let intent : Intent = history.On c (history.Request history.Read (length x.names.requests)) in
         let names : Names = with_request did.0 intent x.names in
-        let lines : List Line = Called intent None ∷ [] in
+        let lines : List Line = Called intent (ToRead data_type count) ∷ [] in
         let reads = did.3 in
         let o : Outcomes = record { core = did.2; names = names; lines = lines; sent = did.1 } in
         subst (λ (v : World). ToldStand v) (sym did.4)
         (told-called w i x names o at (subst (λ (v : Client). Tells x.names x.core lines names v) (sym reads.4.1)
-        (tells-issued x.names x.core (stands.sound i x at).named.requests (s.issued i x at) h reads.0 (request.Read data_type count) did.0 reads.3 (read_sent h reads.0 (record { data_type = data_type; count = count }) did.0 ∷ []) intent lines (called-no-notice intent None))) known s)
+        (tells-issued x.names x.core (stands.sound i x at).named.requests (s.issued i x at) h reads.0 (request.Read data_type count) did.0 reads.3 (read_sent h reads.0 (record { data_type = data_type; count = count }) did.0 ∷ []) intent lines (called-no-notice intent (ToRead data_type count)))) known s)
   ]
 
   pub told-write-notify : (c : ℕ) (h : Handle) (e : Elements) → HappensWriteNotify w i x c h e new → ToldStand new
@@ -121,12 +121,12 @@ module _ (w new : World) (i : ℕ) (x : ClientSide) (at : At w.clients i x) (sta
     | inr did ↦
         let intent : Intent = history.On c (history.Request history.Put (length x.names.requests)) in
         let names : Names = with_request did.0 intent x.names in
-        let lines : List Line = Called intent (Some e) ∷ [] in
+        let lines : List Line = Called intent (ToWrite e) ∷ [] in
         let puts = did.3 in
         let o : Outcomes = record { core = did.2; names = names; lines = lines; sent = did.1 } in
         subst (λ (v : World). ToldStand v) (sym did.4)
         (told-called w i x names o at (subst (λ (v : Client). Tells x.names x.core lines names v) (sym puts.4.1)
-        (tells-issued x.names x.core (stands.sound i x at).named.requests (s.issued i x at) h puts.0 request.Put did.0 puts.3 (put_sent h puts.0 e did.0 ∷ []) intent lines (called-no-notice intent (Some e)))) known s)
+        (tells-issued x.names x.core (stands.sound i x at).named.requests (s.issued i x at) h puts.0 request.Put did.0 puts.3 (put_sent h puts.0 e did.0 ∷ []) intent lines (called-no-notice intent (ToWrite e)))) known s)
   ]
 
   pub told-write : (c : ℕ) (h : Handle) (e : Elements) → HappensWrite w i x c h e new → ToldStand new
@@ -135,7 +135,7 @@ module _ (w new : World) (i : ℕ) (x : ClientSide) (at : At w.clients i x) (sta
     | inr did ↦
         let names : Names = record x.names { writes = x.names.writes + 1 } in
         let intent : Intent = history.On c (history.Request history.Write x.names.writes) in
-        let lines : List Line = Called intent (Some e) ∷ [] in
+        let lines : List Line = Called intent (ToWrite e) ∷ [] in
         let sends : List Sending = write_sent h (did.3.0) e ∷ [] in
         let asks : Asks x.core did.2 = subst (λ (v : Client). Asks x.core v) (sym did.3.3.1) (asks-sending sends x.core) in
         let o : Outcomes = record { core = did.2; names = names; lines = lines; sent = did.1 } in
@@ -144,7 +144,7 @@ module _ (w new : World) (i : ℕ) (x : ClientSide) (at : At w.clients i x) (sta
         (tells-none x.names x.core lines names did.2
         (done-more x.names names x.core did.2 (λ m f named over. (named, λ open_it. over (asks.opens f.0 open_it)))
         (λ m f named over. (named, λ it. over (stands-less x.core (sending sends x.core) (less-sending sends x.core) f.0 (subst (λ (v : Client). StandsBy v f.0) did.3.3.1 it)))))
-        (asks.issued (s.issued i x at)) (called-no-notice intent (Some e))) known s)
+        (asks.issued (s.issued i x at)) (called-no-notice intent (ToWrite e))) known s)
   ]
 
   pub told-subscribe : (c : ℕ) (h : Handle) (data_type count mask : ℕ) → HappensSubscribe w i x c h data_type count mask new → ToldStand new
@@ -153,20 +153,20 @@ module _ (w new : World) (i : ℕ) (x : ClientSide) (at : At w.clients i x) (sta
     | inr did ↦
         let intent : Intent = history.On c (history.Subscribe (length x.names.subscriptions)) in
         let names : Names = with_subscription did.0 intent x.names in
-        let lines : List Line = Called intent None ∷ [] in
+        let lines : List Line = Called intent (ToWatch data_type count mask) ∷ [] in
         let subscribes = did.3 in
         let o : Outcomes = record { core = did.2; names = names; lines = lines; sent = did.1 } in
         subst (λ (v : World). ToldStand v) (sym did.4)
         (told-called w i x names o at (subst (λ (v : Client). Tells x.names x.core lines names v) (sym subscribes.4.1)
         (tells-subscribed x.names x.core (stands.sound i x at).named.subscriptions (s.issued i x at) did.0 (new_subscription h (record { data_type = data_type; count = count }) mask) subscribes.3
-        (event_add_sent (subscribes.0).circuit ((subscribes.0).native).sid did.0 (new_subscription h (record { data_type = data_type; count = count }) mask) ∷ []) intent lines (called-no-notice intent None))) known s)
+        (event_add_sent (subscribes.0).circuit ((subscribes.0).native).sid did.0 (new_subscription h (record { data_type = data_type; count = count }) mask) ∷ []) intent lines (called-no-notice intent (ToWatch data_type count mask)))) known s)
   ]
 
   pub told-unsubscribe : (g : Handle × Intent) → HappensUnsubscribe w i x g new → ToldStand new
   told-unsubscribe g happens = elim happens [
     | inl refusal ↦ told-refused w new i x refusal.0 at refusal.3 known s
     | inr did ↦
-        let lines : List Line = Called (cancelled g.1) None ∷ [] in
+        let lines : List Line = Called (cancelled g.1) Nothing ∷ [] in
         let ends = did.3 in
         let st : Option Standing = standing_at x.core (ends.0).channel in
         let sends : List Sending = cancel_sent g.0 ends.0 st in
@@ -176,7 +176,7 @@ module _ (w new : World) (i : ℕ) (x : ClientSide) (at : At w.clients i x) (sta
         let o : Outcomes = record { core = did.2; names = x.names; lines = lines; sent = did.1 } in
         subst (λ (v : World). ToldStand v) (sym did.4)
         (told-called w i x x.names o at (subst (λ (v : Client). Tells x.names x.core lines x.names v) (sym ends.3.1)
-        (tells-none x.names x.core lines x.names (sending sends z) (done-less x.names x.core (sending sends z) asks.opens (stands-less x.core (sending sends z) less)) (asks.issued (s.issued i x at)) (called-no-notice (cancelled g.1) None))) known s)
+        (tells-none x.names x.core lines x.names (sending sends z) (done-less x.names x.core (sending sends z) asks.opens (stands-less x.core (sending sends z) less)) (asks.issued (s.issued i x at)) (called-no-notice (cancelled g.1) Nothing))) known s)
   ]
 
   pub told-clear : (c : ℕ) (h : Handle) → HappensClear w i x c h new → ToldStand new
@@ -190,10 +190,10 @@ module _ (w new : World) (i : ℕ) (x : ClientSide) (at : At w.clients i x) (sta
         let sends : List Sending = clearing_sent h st in
         let told : Told x.core did.0 did.2 =
         subst (λ (v : List Notice × Client). Told x.core v.0 v.1) (λ k. (sym clears.2 k, sym clears.3.1 k)) (told-cleared x.core h (stands.sound i x at).placed.attached st clears.1) in
-        let o : Outcomes = record { core = did.2; names = x.names; lines = Called intent None ∷ lines; sent = did.1 } in
+        let o : Outcomes = record { core = did.2; names = x.names; lines = Called intent Nothing ∷ lines; sent = did.1 } in
         subst (λ (v : World). ToldStand v) (sym did.4)
         (told-called w i x x.names o at
-        (tells-after x.names x.core (Called intent None) lines x.names did.2 (called-differs intent None) (tells-told x.names x.core history.OfCircuit did.0 did.2 (q.tidy i x at) (s.issued i x at) told)) known s)
+        (tells-after x.names x.core (Called intent Nothing) lines x.names did.2 (called-differs intent Nothing) (tells-told x.names x.core history.OfCircuit did.0 did.2 (q.tidy i x at) (s.issued i x at) told)) known s)
   ]
 
   pub told-handing-out : (number : ℕ) (meant : Intent) (line : Option ℕ → Line) → ((o : Option ℕ) → NoNotice (line o ∷ [])) → HappensHandingOut w x number meant line new → ToldStand new

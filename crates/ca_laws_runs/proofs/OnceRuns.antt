@@ -4,8 +4,7 @@ use Rattle.std.specs.Prelude.{length, map}
 use Rattle.std.specs.List.{FoldsTo}
 use Rattle.ca_text.specs.Place.{At}
 use Rattle.ca_text.proofs.Places.{At-map, At-mapped, some_is}
-use Rattle.ca_dbr.specs.Elements.{Elements}
-use Rattle.ca_model.specs.History.{Called, Circuit, Collected, GaveUp, Intent, Line, Sent}
+use Rattle.ca_model.specs.History.{Called, Circuit, Collected, GaveUp, Intent, Line, Sent, Wish}
 use Rattle.ca_model.specs.Channels.{IsRequest, OfClients, Stands}
 use Rattle.ca_model.specs.Events.{Event}
 use Rattle.ca_model.specs.Events as event
@@ -78,7 +77,7 @@ once-opening setting = record {
     begun : (i : ℕ) (x : ClientSide) → At (opening setting).clients i x → (c : ClientSetting) × At setting.clients i c × (x.life ≡ i)
     begun i x at = (let r = numbered-place 0 (client_begun (addresses setting.servers) 0) setting.clients i x at in (r.0, r.1, ap (λ (v : ClientSide). v.life) r.2 ∙ (let e : 0 + i ≡ i = omega arith in e)))
 
-    no-line : (life : ℕ) (log : List Line) (p : ℕ) (intent : Intent) (e : Option Elements) → At (opening setting).client_logs life log → At log p (Called intent e) → ⊥
+    no-line : (life : ℕ) (log : List Line) (p : ℕ) (intent : Intent) (e : Wish) → At (opening setting).client_logs life log → At log p (Called intent e) → ⊥
     no-line life log p intent e at line = (let m = At-mapped empty setting.clients life log at in nothing p (subst (λ (v : List Line). At v p (Called intent e)) m.2 line))
       where
         nothing : (p : ℕ) → (let v : List Line = [] in At v p (Called intent e)) → ⊥

@@ -7,12 +7,11 @@ use Rattle.std.proofs.lemmas.List.{append-nil}
 use Rattle.ca_text.specs.Place.{At}
 use Rattle.ca_text.proofs.Places.{At-after, At-append, At-map, At-one, At-parts, At-set, At-set-other, At-within}
 use Rattle.ca_arena.specs.declared.handle.Handle.{Handle}
-use Rattle.ca_dbr.specs.Elements.{Elements}
 use Rattle.ca_ids.specs.Table.{same_handle, under}
 use Rattle.ca_model.specs.Answers.{Sending}
 use Rattle.ca_model.specs.Client.{Client, ClientCircuit, Connection, channels_ended, connection_at, ended, let_go, without_circuit, without_ids}
 use Rattle.ca_model.specs.Client as client
-use Rattle.ca_model.specs.History.{Called, Circuit, Intent, Line, Sent}
+use Rattle.ca_model.specs.History.{Called, Circuit, Intent, Line, Sent, Wish}
 use Rattle.ca_model.specs.Server.{Server}
 use Rattle.ca_model.specs.Channels.{IsUse}
 use Rattle.ca_model.proofs.Handles.{handle-or, same-itself}
@@ -39,7 +38,7 @@ IsSaid w life intent = (k : ℕ) × (j : Joined) × (q : ℕ) × (s : Sent) × A
 -- that a log has was sent.
 pub record SentStand (w : World) : Type 0 where
   pub reached : (i : ℕ) (x : ClientSide) (c : Handle) → At w.clients i x → is_none (connection_at x.core c) ≡ false → IsOpenAt w i x.life c
-  pub asked : (life : ℕ) (log : List Line) (p : ℕ) (intent : Intent) (e : Option Elements) → At w.client_logs life log → At log p (Called intent e) → IsUse intent → IsSaid w life intent
+  pub asked : (life : ℕ) (log : List Line) (p : ℕ) (intent : Intent) (e : Wish) → At w.client_logs life log → At log p (Called intent e) → IsUse intent → IsSaid w life intent
 
 -- ---- ends of circuits
 

@@ -24,7 +24,7 @@ use Rattle.ca_model.specs.ClientCalls.{cancel_sent, clearing_sent, event_add_sen
 use Rattle.ca_model.specs.ClientEnds.{ConnectsOn, StepsOn, Ticking, after_taking, all_searched_on, begun, circuits_ticked, creations, distinct, due, handed_over, is_name_connected, name_circuits, of_circuit, searches_made, searches_on, set_up, ticks, ticks_as, with_sending}
 use Rattle.ca_model.specs.Hears.{Effect}
 use Rattle.ca_model.specs.Ends.{Address}
-use Rattle.ca_model.specs.History.{Called, Intent, Line, Sent, Step}
+use Rattle.ca_model.specs.History.{Called, Intent, Line, Nothing, Sent, Step, ToRead, ToWatch, ToWrite, Wish}
 use Rattle.ca_model.specs.History as history
 use Rattle.ca_model.specs.Client as client
 use Rattle.ca_model.proofs.Changes.{given-keeps, handed-keeps, keeps-cleared, keeps-unsubscribed}
@@ -76,7 +76,7 @@ module _ (w new : World) (i : ℕ) (x : ClientSide) (at : At w.clients i x) (sta
     | inr did ↦
         let intent : Intent = history.On c (history.Request history.Read (length x.names.requests)) in
         let names : Names = with_request did.0 intent x.names in
-        let o : Outcomes = record { core = did.2; names = names; lines = Called intent None ∷ []; sent = did.1 } in
+        let o : Outcomes = record { core = did.2; names = names; lines = Called intent (ToRead data_type count) ∷ []; sent = did.1 } in
         subst (λ (v : World). SentStand v) (sym did.4)
         (sent-linked w i x names o at (once.there i x at) (calls-read x.names x.core c h (stands.sound i x at).placed (stands.sound i x at).named.requests (record { data_type = data_type; count = count }) did.0 did.1 did.2 did.3)
         (links-sending x.core (issued h did.3.0 _ did.0 x.core) did.2 (read_sent h did.3.0 (record { data_type = data_type; count = count }) did.0 ∷ []) did.3.4.1 (λ c. refl)) s)
@@ -88,7 +88,7 @@ module _ (w new : World) (i : ℕ) (x : ClientSide) (at : At w.clients i x) (sta
     | inr did ↦
         let intent : Intent = history.On c (history.Request history.Put (length x.names.requests)) in
         let names : Names = with_request did.0 intent x.names in
-        let o : Outcomes = record { core = did.2; names = names; lines = Called intent (Some e) ∷ []; sent = did.1 } in
+        let o : Outcomes = record { core = did.2; names = names; lines = Called intent (ToWrite e) ∷ []; sent = did.1 } in
         subst (λ (v : World). SentStand v) (sym did.4)
         (sent-linked w i x names o at (once.there i x at) (calls-put x.names x.core c h (stands.sound i x at).placed (stands.sound i x at).named.requests e did.0 did.1 did.2 did.3)
         (links-sending x.core (issued h did.3.0 _ did.0 x.core) did.2 (put_sent h did.3.0 e did.0 ∷ []) did.3.4.1 (λ c. refl)) s)
@@ -98,7 +98,7 @@ module _ (w new : World) (i : ℕ) (x : ClientSide) (at : At w.clients i x) (sta
   sent-write c h e named happens = elim happens [
     | inl refusal ↦ sent-refused w new i x refusal.0 at once refusal.3 s
     | inr did ↦
-        let o : Outcomes = record { core = did.2; names = record x.names { writes = x.names.writes + 1 }; lines = Called (history.On c (history.Request history.Write x.names.writes)) (Some e) ∷ []; sent = did.1 } in
+        let o : Outcomes = record { core = did.2; names = record x.names { writes = x.names.writes + 1 }; lines = Called (history.On c (history.Request history.Write x.names.writes)) (ToWrite e) ∷ []; sent = did.1 } in
         subst (λ (v : World). SentStand v) (sym did.4)
         (sent-linked w i x x.names o at (once.there i x at) (calls-write x.names x.core c h e did.1 did.2 (stands.sound i x at).placed (q.tidy i x at) named did.3)
         (links-sending x.core x.core did.2 (write_sent h did.3.0 e ∷ []) did.3.3.1 (λ c. refl)) s)
@@ -111,7 +111,7 @@ module _ (w new : World) (i : ℕ) (x : ClientSide) (at : At w.clients i x) (sta
         let d : Subscription = new_subscription h (record { data_type = data_type; count = count }) mask in
         let intent : Intent = history.On c (history.Subscribe (length x.names.subscriptions)) in
         let names : Names = with_subscription did.0 intent x.names in
-        let o : Outcomes = record { core = did.2; names = names; lines = Called intent None ∷ []; sent = did.1 } in
+        let o : Outcomes = record { core = did.2; names = names; lines = Called intent (ToWatch data_type count mask) ∷ []; sent = did.1 } in
         let z : Client = record x.core { subscriptions = with_held did.0 d x.core.subscriptions } in
         subst (λ (v : World). SentStand v) (sym did.4)
         (sent-linked w i x names o at (once.there i x at) (calls-subscribe x.names x.core c h (record { data_type = data_type; count = count }) mask did.0 did.1 did.2 did.3 (stands.sound i x at).placed (q.tidy i x at) (stands.sound i x at).named.subscriptions)
@@ -122,7 +122,7 @@ module _ (w new : World) (i : ℕ) (x : ClientSide) (at : At w.clients i x) (sta
   sent-unsubscribe m g named happens = elim happens [
     | inl refusal ↦ sent-refused w new i x refusal.0 at once refusal.3 s
     | inr did ↦
-        let o : Outcomes = record { core = did.2; names = x.names; lines = Called (cancelled g.1) None ∷ []; sent = did.1 } in
+        let o : Outcomes = record { core = did.2; names = x.names; lines = Called (cancelled g.1) Nothing ∷ []; sent = did.1 } in
         let keeps : Keeps x.core did.2 = subst (λ (v : Client). Keeps x.core v) (sym did.3.3.1) (keeps-then x.core _ _ (keeps-unsubscribed g.0 x.core did.3.0 did.3.1) (keeps-sending (cancel_sent g.0 did.3.0 (standing_at x.core did.3.0.channel)) _)) in
         subst (λ (v : World). SentStand v) (sym did.4)
         (sent-linked w i x x.names o at (once.there i x at) (calls-unsubscribe x.names x.core g m did.1 did.2 did.3 (q.tidy i x at) named) keeps.links s)
@@ -133,7 +133,7 @@ module _ (w new : World) (i : ℕ) (x : ClientSide) (at : At w.clients i x) (sta
     | inl refusal ↦ sent-refused w new i x refusal.0 at once refusal.3 s
     | inr did ↦
         let lines : List Line = lines_of history.OfCircuit x.names did.0 in
-        let o : Outcomes = record { core = did.2; names = x.names; lines = Called (history.On c history.Clear) None ∷ lines; sent = did.1 } in
+        let o : Outcomes = record { core = did.2; names = x.names; lines = Called (history.On c history.Clear) Nothing ∷ lines; sent = did.1 } in
         let keeps : Keeps x.core did.2 = subst (λ (v : Client). Keeps x.core v) (sym did.3.3.1) (keeps-then x.core _ _ (keeps-cleared h did.3.0 x.core (stands.sound i x at).placed did.3.1) (keeps-sending (clearing_sent h did.3.0) _)) in
         subst (λ (v : World). SentStand v) (sym did.4)
         (sent-linked w i x x.names o at (once.there i x at) (calls-clear x.names x.core c h did.0 did.1 did.2 lines did.3 (q.tidy i x at) named (notices-no-call history.OfCircuit x.names did.0)) keeps.links s)
@@ -323,7 +323,7 @@ sent-client-restart w new i x at s happens = subst (λ (v : World). SentStand v)
     z : ClientSide
     z = client_begun servers w.moment (length w.client_logs) x.setting
 
-    empty : (p : ℕ) (intent : Intent) (e : Option Elements) → (let log : List Line = [] in At log p (Called intent e)) → ⊥
+    empty : (p : ℕ) (intent : Intent) (e : Wish) → (let log : List Line = [] in At log p (Called intent e)) → ⊥
     empty p intent e line = cc
 
     others : (a : Joined) → (a.client ≡ i → ⊥) → client_gone i x a ≡ a

@@ -1,13 +1,12 @@
 -- After every run, what a client called as a request or a subscription was sent.
-use Rattle.std.proofs.Common.{◌≡◌, ℕ, inl, inr, true, List, [], ◌∷◌, Option, Some, None, refl, sym, subst}
+use Rattle.std.proofs.Common.{◌≡◌, ℕ, inl, inr, true, List, [], ◌∷◌, Option, Some, refl, sym, subst}
 use Rattle.std.specs.Prelude.{is_none, length}
 use Rattle.std.specs.List.{FoldsTo}
 use Rattle.std.proofs.lemmas.Bool.{both_ways}
 use Rattle.ca_text.specs.Place.{At}
 use Rattle.ca_text.proofs.Places.{At-map, At-mapped}
-use Rattle.ca_dbr.specs.Elements.{Elements}
 use Rattle.ca_model.specs.Client.{connection_at}
-use Rattle.ca_model.specs.History.{Called, Collected, GaveUp, Intent, Line}
+use Rattle.ca_model.specs.History.{Called, Collected, GaveUp, Intent, Line, Wish}
 use Rattle.ca_model.specs.History as history
 use Rattle.ca_model.specs.Channels.{IsRequest, IsUse, OfClients, Stands}
 use Rattle.ca_model.specs.Legal.{IsSent}
@@ -69,7 +68,7 @@ sent-opening setting = record {
     empty : ClientSetting → List Line
     empty c = []
 
-    nothing : (p : ℕ) (intent : Intent) (e : Option Elements) → (let v : List Line = [] in At v p (Called intent e)) → ⊥
+    nothing : (p : ℕ) (intent : Intent) (e : Wish) → (let v : List Line = [] in At v p (Called intent e)) → ⊥
     nothing p intent e line = cc
 
 -- ---- runs
@@ -111,4 +110,4 @@ sends-called setting es stopped w runs life x at intent e is called =
 pub is-sent : (setting : Setting) (es : List Event) (stopped : Option Event) (w : World) → Runs setting es stopped w → OfClients (told w) (IsSent (told w))
 is-sent setting es stopped w runs life x at channel number called =
     let intent : Intent = history.On channel (history.Subscribe number) in
-    said-at w life intent ((sent-runs setting es stopped w runs).asked life x called.0 intent None at called.1 tt)
+    said-at w life intent ((sent-runs setting es stopped w runs).asked life x called.1.0 intent called.0 at called.1.1 tt)

@@ -7,10 +7,9 @@ use Rattle.std.proofs.lemmas.List.{append-nil}
 use Rattle.ca_text.specs.Place.{At}
 use Rattle.ca_text.proofs.Places.{At-mapped, At-one, At-parts, At-set, At-set-other, At-within, some_is}
 use Rattle.ca_arena.specs.declared.handle.Handle.{Handle}
-use Rattle.ca_dbr.specs.Elements.{Elements}
 use Rattle.ca_ids.specs.Table.{same_handle}
 use Rattle.ca_model.specs.Answers.{Sending}
-use Rattle.ca_model.specs.History.{Called, Circuit, Intent, Line, Sent}
+use Rattle.ca_model.specs.History.{Called, Circuit, Intent, Line, Sent, Wish}
 use Rattle.ca_model.specs.Server.{Server}
 use Rattle.ca_model.specs.Channels.{IsRequest}
 use Rattle.ca_model.proofs.Handles.{same-is, same-itself}
@@ -31,9 +30,9 @@ pub record OnceStand (w : World) : Type 0 where
   pub apart : (i l : ℕ) (x y : ClientSide) → At w.clients i x → At w.clients l y → x.life ≡ y.life → i ≡ l
   pub ends : (k : ℕ) (j : Joined) (x : ClientSide) → At w.circuits k j → At w.clients j.client x → j.lists.client_open ≡ true → j.lists.client ≡ x.life
   pub lives : (k : ℕ) (j : Joined) → At w.circuits k j → (log : List Line) × At w.client_logs j.lists.client log
-  pub called : (i : ℕ) (x : ClientSide) (log : List Line) (p : ℕ) (intent : Intent) (e : Option Elements) → At w.clients i x → At w.client_logs x.life log → At log p (Called intent e)
+  pub called : (i : ℕ) (x : ClientSide) (log : List Line) (p : ℕ) (intent : Intent) (e : Wish) → At w.clients i x → At w.client_logs x.life log → At log p (Called intent e)
       → IsUsed x.names x.core intent
-  pub once : (life : ℕ) (log : List Line) (p q : ℕ) (intent : Intent) (e f : Option Elements) → At w.client_logs life log → At log p (Called intent e) → At log q (Called intent f) → p ≡ q
+  pub once : (life : ℕ) (log : List Line) (p q : ℕ) (intent : Intent) (e f : Wish) → At w.client_logs life log → At log p (Called intent e) → At log q (Called intent f) → p ≡ q
   pub said : (k i p : ℕ) (j : Joined) (x : ClientSide) (s : Sent) → At w.circuits k j → At w.clients i x → j.lists.client ≡ x.life → At j.lists.up p s → IsRequest s.intent → IsUsed x.names x.core s.intent
   pub one : (k l p q : ℕ) (a b : Joined) (r s : Sent) → At w.circuits k a → At w.circuits l b → a.lists.client ≡ b.lists.client → At a.lists.up p r → At b.lists.up q s → r.intent ≡ s.intent → IsRequest r.intent
       → (k ≡ l) × (p ≡ q)

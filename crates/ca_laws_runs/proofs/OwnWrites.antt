@@ -1,12 +1,12 @@
 -- What is applied is what the caller gave, to the record that the caller's channel names; and so
 -- the whole clause of writes.
-use Rattle.std.proofs.Common.{◌≡◌, ℕ, List, Ok, Option, Some, refl, sym, ap, subst, ◌∙◌}
+use Rattle.std.proofs.Common.{◌≡◌, ℕ, List, Ok, Option, refl, sym, ap, subst, ◌∙◌}
 use Rattle.ca_text.specs.Place.{At}
 use Rattle.ca_text.proofs.Places.{At-map, At-one}
 use Rattle.ca_dbr.specs.Conversion.{converted}
 use Rattle.ca_dbr.specs.Elements.{Elements, base_of}
 use Rattle.ca_records.specs.Record.{RecordState}
-use Rattle.ca_model.specs.History.{Added, Applied, Ask, Called, Create, Entry, Intent, On, Opened, Sent}
+use Rattle.ca_model.specs.History.{Added, Applied, Ask, Called, Create, Entry, Intent, On, Opened, Sent, ToWrite}
 use Rattle.ca_model.specs.Speech.{In, IsWritten, Stored}
 use Rattle.ca_model.specs.Channels.{IsApplied, IsOwnWrite}
 use Rattle.ca_model.specs.Events.{Event}
@@ -82,7 +82,7 @@ module _ (s : Setting) (es : List Event) (stopped : Option Event) (w : World) (o
       channel = meant.0;
       ask = meant.1;
       given = carried.given;
-      called = ((m.s, m.sent, meant.2), subst (λ (z : Intent). In t.x (Called z (Some carried.given))) meant.2 carried.called);
+      called = ((m.s, m.sent, meant.2), subst (λ (z : Intent). In t.x (Called z (ToWrite carried.given))) meant.2 carried.called);
       to = m.to;
       there = (subst (λ (z : ℕ × RecordState). In t.x (Opened z.0 (z.1).name)) (λ j. (sym number j, sym state j)) t.opened, (m.there).0, (m.there).1);
       value = subst (λ (z : Elements). converted z (base_of (m.to).value) ≡ Ok v.value) given m.value;

@@ -6,7 +6,6 @@ use Rattle.std.proofs.lemmas.Bool.{and_from, both_ways, eq-eqb}
 use Rattle.ca_text.specs.Place.{At}
 use Rattle.ca_text.proofs.Places.{At-after, At-map, At-mapped, some_is}
 use Rattle.ca_arena.specs.declared.handle.Handle.{Handle}
-use Rattle.ca_dbr.specs.Elements.{Elements}
 use Rattle.ca_dbr.specs.declared.value.Outcome.TheVariants as outcome
 use Rattle.ca_ids.specs.Table.{same_handle, under}
 use Rattle.ca_requests.specs.Requests.{asks_on}
@@ -14,7 +13,7 @@ use Rattle.ca_model.specs.Answers.{Closed, Closing, Left, Notice, Sending}
 use Rattle.ca_model.specs.Answers as notice
 use Rattle.ca_model.specs.Client.{Client, ClientCircuit, Connection, Live, connection_at, disconnections, farewell}
 use Rattle.ca_model.specs.ClientEnds.{ConnectsOn, StepsOn, circuits_ticked}
-use Rattle.ca_model.specs.History.{Called, Clear, Intent, Line, OfCircuit, On}
+use Rattle.ca_model.specs.History.{Called, Clear, Intent, Line, Nothing, OfCircuit, On, Wish}
 use Rattle.ca_model.specs.Speech.{In}
 use Rattle.ca_model.specs.Placed.{IsPlaced}
 use Rattle.ca_model.proofs.Handles.{same-is, same-itself}
@@ -52,7 +51,7 @@ pub record IsAway (x : ClientSide) (said : Notice) (y : List Line) (i : ℕ) : T
   pub q : Handle
   pub is : said ≡ notice.Completed q outcome.Disconnected
   pub was_open : IsOpenIn (asks_on h) x.core q
-  pub cleared : In (take i y) (Called (On (channel_number x.names h) Clear) None)
+  pub cleared : In (take i y) (Called (On (channel_number x.names h) Clear) Nothing)
 
 -- Line i of this log is new, and says that something is lost so.
 pub record Parted (w new : World) (l : ℕ) (y : List Line) (i : ℕ) (line : Line) : Type 0 where
@@ -69,7 +68,7 @@ pub record Parted (w new : World) (l : ℕ) (y : List Line) (i : ℕ) (line : Li
   pub said : Notice
   pub tells : line ≡ line_of OfCircuit x.names said
   pub way : IsCut w new number x said ⊎ IsAway x said y i
-  pub calls : (q : ℕ) (intent : Intent) (e : Option Elements) → At lines q (Called intent e) → IsAway x said y i
+  pub calls : (q : ℕ) (intent : Intent) (e : Wish) → At lines q (Called intent e) → IsAway x said y i
   pub once : (h : Handle) → said ≡ notice.Lost h → (q : ℕ) (a : Line) → q < place → At lines q a → (other : Notice) × (a ≡ line_of OfCircuit x.names other) × IsCut w new number x other × (other ≡ notice.Lost h → ⊥)
 
 -- So it is of each line that is new and tells something.
@@ -80,7 +79,7 @@ pub parts-silent : (w new : World) → LinesFrom IsSilent w new → PartsFrom w 
 parts-silent w new from l y i line at there = elim (from l y i line at there) [ inl old ↦ inl old | inr silent ↦ inr (inl silent) ]
 
 -- a notice is no call
-pub not-call : (about : Intent) (n : Names) (said : Notice) (intent : Intent) (e : Option Elements) → Called intent e ≡ line_of about n said → ⊥
+pub not-call : (about : Intent) (n : Names) (said : Notice) (intent : Intent) (e : Wish) → Called intent e ≡ line_of about n said → ⊥
 not-call about n (notice.Completed q out) intent e is = cc
 not-call about n (notice.Lost h) intent e is = cc
 not-call about n (notice.Live h) intent e is = cc
@@ -145,7 +144,7 @@ clear-parts w new i x c h at number lives happens = elim happens [
     | inr more ↦ inr (inl (silent-one _ tt more.1 line more.5))
   ]
   | inr did ↦
-      let call : Line = Called (On c Clear) None in
+      let call : Line = Called (On c Clear) Nothing in
       let lines : List Line = call ∷ lines_of OfCircuit x.names did.0 in
       λ l y p line at_y there. elim (lines-grown w.client_logs x.life lines (lives.present i x at) l y p line (subst (λ (v : List (List Line)). At v l y) (ap (λ (z : World). z.client_logs) did.4) at_y) there) [
         | inl old ↦ inl old
@@ -157,11 +156,11 @@ clear-parts w new i x c h at number lives happens = elim happens [
     silent-one a silent zero line there = subst (λ (v : Line). IsSilent v) (some_is a line there) silent
     silent-one a silent (suc p) line there = absurd cc
 
-    by : (notices : List Notice) → notices ≡ disconnections (asks_on h) x.core → (l : ℕ) (y : List Line) (p : ℕ) (line : Line) (log : List Line) (m : ℕ) → l ≡ x.life → At w.client_logs l log → y ≡ log ++ (Called (On c Clear) None ∷ lines_of OfCircuit x.names notices) → At (Called (On c Clear) None ∷ lines_of OfCircuit x.names notices) m line → p ≡ length log + m
+    by : (notices : List Notice) → notices ≡ disconnections (asks_on h) x.core → (l : ℕ) (y : List Line) (p : ℕ) (line : Line) (log : List Line) (m : ℕ) → l ≡ x.life → At w.client_logs l log → y ≡ log ++ (Called (On c Clear) Nothing ∷ lines_of OfCircuit x.names notices) → At (Called (On c Clear) Nothing ∷ lines_of OfCircuit x.names notices) m line → p ≡ length log + m
         → IsSilent line ⊎ Parted w new l y p line
-    by notices are l y p line log zero mine logged whole placed place = inl (subst (λ (v : Line). IsSilent v) (some_is (Called (On c Clear) None) line placed) tt)
+    by notices are l y p line log zero mine logged whole placed place = inl (subst (λ (v : Line). IsSilent v) (some_is (Called (On c Clear) Nothing) line placed) tt)
     by notices are l y p line log (suc m) mine logged whole placed place =
-        let call : Line = Called (On c Clear) None in
+        let call : Line = Called (On c Clear) Nothing in
         let lines : List Line = call ∷ lines_of OfCircuit x.names notices in
         let q = At-mapped (line_of OfCircuit x.names) notices m line placed in
         let g = gone-open (asks_on h) x.core m q.0 (subst (λ (v : List Notice). At v m q.0) are q.1) in
@@ -172,7 +171,7 @@ clear-parts w new i x c h at number lives happens = elim happens [
           q = g.0;
           is = g.1;
           was_open = g.2;
-          cleared = (length log + 0, subst (λ (v : ℕ). At (take p y) (length log + 0) (Called (On v Clear) None)) (sym number) (at-taken y p (length log + 0) call early first));
+          cleared = (length log + 0, subst (λ (v : ℕ). At (take p y) (length log + 0) (Called (On v Clear) Nothing)) (sym number) (at-taken y p (length log + 0) call early first));
         } in
         inr (record {
           number = i;

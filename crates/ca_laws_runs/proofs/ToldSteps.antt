@@ -97,8 +97,8 @@ subscription-held w i x log once at logged tidy g d ch there stands channel held
     let handle : e.0 ≡ g = ap (λ (z : Handle × Intent). z.0) same in
     both_ways (stands_in d.stage) (over d (subst (λ (k : Handle). under x.core.subscriptions k ≡ Some d) (sym handle) there)) stands) in
     subst (λ (z : Intent). IsHeld log z) (sym m.2) (
-      λ clear. (let u = once.called i x log clear.0 (history.On a Clear) None at logged clear.1 in of_channel u.0 u.1 u.2),
-      λ cancel. (let u = once.called i x log cancel.0 (history.On a (Cancel m.0)) None at logged cancel.1 in of_subscription u.0 u.1 u.2),
+      λ clear. (let u = once.called i x log clear.0 (history.On a Clear) history.Nothing at logged clear.1 in of_channel u.0 u.1 u.2),
+      λ cancel. (let u = once.called i x log cancel.0 (history.On a (Cancel m.0)) history.Nothing at logged cancel.1 in of_subscription u.0 u.1 u.2),
     )
 
 -- ---- the cause of an update
@@ -269,7 +269,7 @@ module _ (w new : World) (k : ℕ) (j : Joined) (x : ClientSide) (on : At w.circ
   created-held log h ch logged there is_held = λ clear.
       let tidy : Tidy x.names x.core = quiet.tidy j.client x at in
       let a : ℕ = channel_number x.names h in
-      let u = once.called j.client x log clear.0 (history.On a Clear) None at logged clear.1 in
+      let u = once.called j.client x log clear.0 (history.On a Clear) history.Nothing at logged clear.1 in
       let same : u.0 ≡ h = At-one x.names.channels a u.0 h u.1 (tidy.numbered h ch there) in
       both_ways (is_gone ch.standing) is_held (u.2 ch (subst (λ (k : Handle). under x.core.channels k ≡ Some ch) (sym same) there))
 

@@ -1,5 +1,5 @@
--- Each read, put and plain write that a client sends is that of the call that sends it, a put or a
--- plain write with the value that was given: what each event sends.
+-- Each read, put and plain write that a client sends is that of the call that sends it, a read for
+-- the type and the count of that, a put or a plain write with its value: what each event sends.
 use Rattle.std.proofs.Common.{◌≡◌, ℕ, zero, suc, ◌+◌, ◌⊎◌, inl, inr, Bool, true, false, ◌&&◌, cond, eqb, List, [], ◌∷◌, ◌++◌, length, Option, Some, None, refl, sym, ap, ◌∙◌, subst}
 use Rattle.std.specs.Prelude.{drop, is_none, map, option_map, slice_set, unwrap_or}
 use Rattle.std.specs.List.{FoldsTo}
@@ -11,11 +11,11 @@ use Rattle.ca_dbr.specs.Elements.{Elements, IsValue}
 use Rattle.ca_monitor.specs.Subscriptions.{Subscription}
 use Rattle.ca_model.specs.Answers.{Closed, Closing, NeedBytes, Notices, Sending, Stepped}
 use Rattle.ca_model.specs.Client.{Clearing, Client, ClientCircuit, Connecting, Connection, Creating, Doomed, Leaving, Live, On, Searching, Standing, connection_at, later, out_bytes, standing_at}
-use Rattle.ca_model.specs.ClientCalls.{cancel_sent, clear_sent, clearing_sent, event_cancel_sent, put_sent, write_sent}
+use Rattle.ca_model.specs.ClientCalls.{Shape, cancel_sent, clear_sent, clearing_sent, event_cancel_sent, put_sent, read_sent, write_sent}
 use Rattle.ca_model.specs.ClientEnds.{ConnectsOn, StepsOn, after_taking, handed_over}
 use Rattle.ca_model.specs.Ends.{Address}
 use Rattle.ca_model.specs.Hears.{Effect}
-use Rattle.ca_model.specs.History.{Called, Intent, Line, Sent, Step}
+use Rattle.ca_model.specs.History.{Called, Intent, Line, Sent, Step, ToRead, ToWrite, Wish}
 use Rattle.ca_model.specs.History as history
 use Rattle.ca_model.specs.Speech.{In}
 use Rattle.ca_model.specs.Channels.{IsRequest}
@@ -110,7 +110,7 @@ says-called w mid new i names sent ups is none n d k s at there writes =
     ]
 
 -- One was, which its call reports.
-says-one : (w new : World) (i : ℕ) (x : ClientSide) (spoken : Names) (o : Outcomes) (r : Sending) (given : Option Elements) → At w.clients i x → OnceStand w → new ≡ client_after i x spoken o w → o.sent ≡ r ∷ []
+says-one : (w new : World) (i : ℕ) (x : ClientSide) (spoken : Names) (o : Outcomes) (r : Sending) (given : Wish) → At w.clients i x → OnceStand w → new ≡ client_after i x spoken o w → o.sent ≡ r ∷ []
     → o.lines ≡ Called (intent_of spoken r.aim) given ∷ [] → ((l : List Line) → In l (Called (intent_of spoken r.aim) given) → IsCalledIn l (stamped spoken r)) → CarriesBack w new
 says-one w new i x spoken o r given at once is sent lines called n d k s at_d there writes =
     let b = after-goes i spoken o.sent w new (ap (λ (v : World). v.circuits) is) n d at_d in
@@ -169,10 +169,15 @@ module _ (w new : World) (i : ℕ) (x : ClientSide) (at : At w.clients i x) (sta
     | inr did ↦
         let intent : Intent = history.On c (history.Request history.Read (length x.names.requests)) in
         let names : Names = with_request did.0 intent x.names in
-        let calls = calls-read x.names x.core c h (stands.sound i x at).placed (stands.sound i x at).named.requests (record { data_type = data_type; count = count }) did.0 did.1 did.2 did.3 in
-        let o : Outcomes = record { core = did.2; names = names; lines = Called intent None ∷ []; sent = did.1 } in
-        let a = calls.asks 0 intent None refl tt in
-        says-one w new i x names o a.0 None at once did.4 a.1 (ap (λ (z : Intent). Called z None ∷ []) (sym a.2)) (λ l has. inl (subst (λ (z : Intent). IsRead z) (sym a.2) tt, has))
+        let shape : Shape = record { data_type = data_type; count = count } in
+        let calls = calls-read x.names x.core c h (stands.sound i x at).placed (stands.sound i x at).named.requests shape did.0 did.1 did.2 did.3 in
+        let asks : Wish = ToRead data_type count in
+        let o : Outcomes = record { core = did.2; names = names; lines = Called intent asks ∷ []; sent = did.1 } in
+        let a = calls.asks 0 intent asks refl tt in
+        let r : Sending = read_sent h did.3.0 shape did.0 in
+        let same : a.0 ≡ r = some_is a.0 r (subst (λ (l : List Sending). At l 0 r) (sym did.3.4.0 ∙ a.1) refl) in
+        let meant : intent_of names r.aim ≡ intent = ap (λ (z : Sending). intent_of names z.aim) (sym same) ∙ a.2 in
+        says-one w new i x names o r asks at once did.4 did.3.4.0 (ap (λ (z : Intent). Called z asks ∷ []) (sym meant)) (λ l has. inl (subst (λ (z : Intent). IsRead z) (sym meant) tt, has))
   ]
 
   says-put : (c : ℕ) (h : Handle) (e : Elements) → IsValue e → HappensWriteNotify w i x c h e new → CarriesBack w new
@@ -181,13 +186,13 @@ module _ (w new : World) (i : ℕ) (x : ClientSide) (at : At w.clients i x) (sta
     | inr did ↦
         let intent : Intent = history.On c (history.Request history.Put (length x.names.requests)) in
         let names : Names = with_request did.0 intent x.names in
-        let o : Outcomes = record { core = did.2; names = names; lines = Called intent (Some e) ∷ []; sent = did.1 } in
+        let o : Outcomes = record { core = did.2; names = names; lines = Called intent (ToWrite e) ∷ []; sent = did.1 } in
         let calls = calls-put x.names x.core c h (stands.sound i x at).placed (stands.sound i x at).named.requests e did.0 did.1 did.2 did.3 in
-        let a = calls.asks 0 intent (Some e) refl tt in
+        let a = calls.asks 0 intent (ToWrite e) refl tt in
         let r : Sending = put_sent h did.3.0 e did.0 in
         let same : a.0 ≡ r = some_is a.0 r (subst (λ (l : List Sending). At l 0 r) (sym did.3.4.0 ∙ a.1) refl) in
         let meant : intent_of names r.aim ≡ intent = ap (λ (z : Sending). intent_of names z.aim) (sym same) ∙ a.2 in
-        says-one w new i x names o r (Some e) at once did.4 did.3.4.0 (ap (λ (z : Intent). Called z (Some e) ∷ []) (sym meant)) (λ l has. inr (subst (λ (z : Intent). IsWrite z) (sym meant) tt, record { given = e; called = has; valued = valued; carries = record { typed = refl; counted = refl; payload = refl } }))
+        says-one w new i x names o r (ToWrite e) at once did.4 did.3.4.0 (ap (λ (z : Intent). Called z (ToWrite e) ∷ []) (sym meant)) (λ l has. inr (subst (λ (z : Intent). IsWrite z) (sym meant) tt, record { given = e; called = has; valued = valued; carries = record { typed = refl; counted = refl; payload = refl } }))
   ]
 
   says-write : (c : ℕ) (h : Handle) (e : Elements) → At x.names.channels c h → IsValue e → HappensWrite w i x c h e new → CarriesBack w new
@@ -195,13 +200,13 @@ module _ (w new : World) (i : ℕ) (x : ClientSide) (at : At w.clients i x) (sta
     | inl refusal ↦ same-world (ap (λ (z : World). z.circuits) refusal.3)
     | inr did ↦
         let intent : Intent = history.On c (history.Request history.Write x.names.writes) in
-        let o : Outcomes = record { core = did.2; names = record x.names { writes = x.names.writes + 1 }; lines = Called intent (Some e) ∷ []; sent = did.1 } in
+        let o : Outcomes = record { core = did.2; names = record x.names { writes = x.names.writes + 1 }; lines = Called intent (ToWrite e) ∷ []; sent = did.1 } in
         let calls = calls-write x.names x.core c h e did.1 did.2 (stands.sound i x at).placed (q.tidy i x at) named did.3 in
-        let a = calls.asks 0 intent (Some e) refl tt in
+        let a = calls.asks 0 intent (ToWrite e) refl tt in
         let r : Sending = write_sent h did.3.0 e in
         let same : a.0 ≡ r = some_is a.0 r (subst (λ (l : List Sending). At l 0 r) (sym did.3.3.0 ∙ a.1) refl) in
         let meant : intent_of x.names r.aim ≡ intent = ap (λ (z : Sending). intent_of x.names z.aim) (sym same) ∙ a.2 in
-        says-one w new i x x.names o r (Some e) at once did.4 did.3.3.0 (ap (λ (z : Intent). Called z (Some e) ∷ []) (sym meant)) (λ l has. inr (subst (λ (z : Intent). IsWrite z) (sym meant) tt, record { given = e; called = has; valued = valued; carries = record { typed = refl; counted = refl; payload = refl } }))
+        says-one w new i x x.names o r (ToWrite e) at once did.4 did.3.3.0 (ap (λ (z : Intent). Called z (ToWrite e) ∷ []) (sym meant)) (λ l has. inr (subst (λ (z : Intent). IsWrite z) (sym meant) tt, record { given = e; called = has; valued = valued; carries = record { typed = refl; counted = refl; payload = refl } }))
   ]
 
   says-subscribe : (c : ℕ) (h : Handle) (data_type count mask : ℕ) → HappensSubscribe w i x c h data_type count mask new → CarriesBack w new

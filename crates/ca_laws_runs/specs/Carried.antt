@@ -1,11 +1,12 @@
--- Working: what clients read, put and write was called, and puts and plain writes carry what their
--- callers gave; the record that each was applied to has the name of the caller's channel.
-use Rattle.std.specs.Prelude.{ℕ, ◌≡◌, ◌⊎◌, List, None, Some}
+-- Working: what clients read, put and write was called, reads ask for what their callers did, and
+-- puts and plain writes carry what those gave; the record that each was applied to has the name of
+-- the caller's channel.
+use Rattle.std.specs.Prelude.{ℕ, ◌≡◌, ◌⊎◌, List}
 use Rattle.ca_dbr.specs.Elements.{Elements, IsValue}
 use Rattle.ca_records.specs.Record.{RecordState}
 use Rattle.ca_text.specs.Place.{At}
 use Rattle.ca_model.specs.History.{Added, Applied, Ask, Called, Entry, Intent, Line, On, Opened}
-use Rattle.ca_model.specs.History.{Put, Read, Request, Sent, Waits, Write}
+use Rattle.ca_model.specs.History.{Put, Read, Request, Sent, ToRead, ToWrite, Waits, Write}
 use Rattle.ca_model.specs.Channels.{IsRequest}
 use Rattle.ca_model.specs.Legal.{Carries}
 use Rattle.ca_model.specs.Speech.{In, IsWritten}
@@ -27,14 +28,16 @@ IsWrite intent = ⊥
 -- By these lines what the message is meant for was called with a value, which the message carries.
 pub record IsCarried (x : List Line) (s : Sent) : Type 0 where
   pub given : Elements
-  pub called : In x (Called s.intent (Some given))
+  pub called : In x (Called s.intent (ToWrite given))
   pub valued : IsValue given
   pub carries : Carries s.message given
 
--- What the message is meant for was called: a read, or a put or a plain write with its value.
+-- What the message is meant for was called: a read for the type and the count that it asks for, or
+-- a put or a plain write with its value.
 abbrev pub IsCalledIn : List Line → Sent → Type 0
 IsCalledIn x s =
-    (IsRead s.intent × In x (Called s.intent None)) ⊎ (IsWrite s.intent × IsCarried x s)
+    (IsRead s.intent × In x (Called s.intent (ToRead s.message.data_type s.message.count)))
+    ⊎ (IsWrite s.intent × IsCarried x s)
 
 -- So it is of each request that was sent, by the log of its client's life.
 abbrev pub AllCarried : World → Type 0

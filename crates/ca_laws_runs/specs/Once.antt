@@ -1,21 +1,20 @@
 -- Statement: of what a client called and what it was told: parts of what is said of its
 -- log, each by itself.
-use Rattle.std.specs.Prelude.{ℕ, ◌≡◌, List, Option}
-use Rattle.ca_dbr.specs.Elements.{Elements}
+use Rattle.std.specs.Prelude.{ℕ, ◌≡◌, List}
 use Rattle.ca_dbr.specs.declared.value.Outcome.{Outcome}
 use Rattle.ca_dbr.specs.declared.value.Outcome.TheVariants.{Failed}
 use Rattle.ca_text.specs.declared.status.Status.{Status}
 use Rattle.ca_text.specs.Place.{At}
 use Rattle.ca_model.specs.History.{Called, Intent, Line, Noticed, On, Put, Read, Request, Subscribe}
-use Rattle.ca_model.specs.History.{World, Write}
+use Rattle.ca_model.specs.History.{Wish, World, Write}
 use Rattle.ca_model.specs.Speech.{In}
 use Rattle.ca_model.specs.Channels.{IsRequest, Stands}
 
 -- A call is accepted once.
 abbrev pub CallsOnce : World → (life : ℕ) → List Line → Type 0
 CallsOnce w life x =
-    (i l : ℕ) (intent : Intent) (e f : Option Elements) → At x i (Called intent e)
-    → At x l (Called intent f) → i ≡ l
+    (i l : ℕ) (intent : Intent) (a b : Wish) → At x i (Called intent a)
+    → At x l (Called intent b) → i ≡ l
 
 -- A request that was sent is at one place of one circuit.
 abbrev pub StandsOnce : World → (life : ℕ) → List Line → Type 0
@@ -26,7 +25,7 @@ StandsOnce w life x =
 -- An accepted request was sent.
 abbrev pub SendsCalled : World → (life : ℕ) → List Line → Type 0
 SendsCalled w life x =
-    (intent : Intent) (e : Option Elements) → IsRequest intent → In x (Called intent e) → (n k : ℕ)
+    (intent : Intent) (a : Wish) → IsRequest intent → In x (Called intent a) → (n k : ℕ)
     × Stands w life intent n k
 
 -- An intent that a client's core keeps until it is answered: to read, to put with

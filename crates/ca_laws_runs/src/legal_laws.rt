@@ -30,10 +30,11 @@ pub fn accepted_subscriptions_were_sent()
 {}
 
 /// After every run from a well-formed setting by well-formed events, each message that a client
-/// sent for a channel was called, by the log of its client's life: a write with the value that it
-/// carries. A CREATE_CHAN has the name under which its channel was opened; and a CLEAR_CHANNEL that
-/// was not called answers a SERVER_DISCONN. This is `called` of the statement's `LegalCircuit`. It
-/// holds also of what an end sent that has ended.
+/// sent for a channel was called, by the log of its client's life, for what it asks for: a read or
+/// an EVENT_ADD for its type and count, an EVENT_ADD also for its mask, a write with the value that
+/// it carries. A CREATE_CHAN has the name under which its channel was opened; and a CLEAR_CHANNEL
+/// that was not called answers a SERVER_DISCONN. This is `called` of the statement's
+/// `LegalCircuit`. It holds also of what an end sent that has ended.
 pub fn what_a_client_sends_was_called()
     ensures { (s : Setting) (es : List Event) (stopped : Option Event) (w : World) → IsSetting s
         → AreEvents es → Runs s es stopped w → MessagesWereCalled w }

@@ -8,7 +8,8 @@ ghost use Rattle.ca_laws_runs.specs.Carried.{AllCarried, AllTitled};
 ghost use Rattle.ca_laws_runs.specs.OwnWrites.{WritesAreNotTwice, WritesAreOwn};
 
 /// After every run by well-formed events the log of a client's life has the call of each read, put
-/// and plain write that it sent, and a put or a plain write carries the value of its call.
+/// and plain write that it sent: a read asks for the type and the count of its call, and a put or a
+/// plain write carries the value.
 pub fn writes_carry_what_callers_gave()
     ensures { (s : Setting) (es : List Event) (stopped : Option Event) (w : World) → AreEvents es
         → Runs s es stopped w → AllCarried w }

@@ -16,7 +16,7 @@ use Rattle.ca_model.specs.History.{Intent, On}
 use Rattle.ca_model.specs.History.{OfCircuit}
 use Rattle.ca_model.specs.History.{Cause, Reply, Removal, Sent, Told, Step, Circuit}
 use Rattle.ca_model.specs.History.{Entry, Added, Removed, Waits, Applied, Finished, Withdrawn, Line}
-use Rattle.ca_model.specs.History.{Opened, Called}
+use Rattle.ca_model.specs.History.{Opened, Called, Nothing, ToWrite}
 use Rattle.ca_model.specs.History.{World}
 
 -- ---- messages and intents
@@ -74,9 +74,9 @@ IsUse intent = ⊥
 -- no such subscription.
 abbrev pub IsHeld : List Line → Intent → Type 0
 IsHeld x (On channel (Subscribe number)) =
-    (In x (Called (On channel Clear) None) → ⊥)
-    × (In x (Called (On channel (Cancel number)) None) → ⊥)
-IsHeld x (On channel ask) = In x (Called (On channel Clear) None) → ⊥
+    (In x (Called (On channel Clear) Nothing) → ⊥)
+    × (In x (Called (On channel (Cancel number)) Nothing) → ⊥)
+IsHeld x (On channel ask) = In x (Called (On channel Clear) Nothing) → ⊥
 IsHeld x OfCircuit = Unit {0}
 
 -- What an id names in an intent: the channel, the request or the subscription.
@@ -253,7 +253,7 @@ pub record IsOwnWrite (w : World) (n k l i r : ℕ) (v : Stored) : Type 0 where
   pub channel : ℕ
   pub ask : Ask
   pub given : Elements
-  pub called : Meant c k (On channel ask) × In x (Called (On channel ask) (Some given))
+  pub called : Meant c k (On channel ask) × In x (Called (On channel ask) (ToWrite given))
   pub to : RecordState
   pub there : In x (Opened channel to.name) × In (take i y) (Added r to)
       × (In (take i y) (Removed r) → ⊥)
@@ -282,7 +282,7 @@ IsLost w life x i intent =
     (n k channel : ℕ) × (ask : Ask) × (c : Circuit) × At w.circuits n c × (c.client ≡ life)
     × (intent ≡ On channel ask)
     × Meant c k intent
-    × ((c.client_open ≡ false) ⊎ (In (take i x) (Called (On channel Clear) None)
+    × ((c.client_open ≡ false) ⊎ (In (take i x) (Called (On channel Clear) Nothing)
     ⊎ ((j : ℕ) × (t : Told) × (h : Step) × At c.down j t × At c.heard j h × (t.cause ≡ Removal)
     × Meant c t.place (On channel Create)
     × (t.place ≤ k) × (k < h.sent) × (h.logged ≤ i) × (i < h.after))))

@@ -177,7 +177,8 @@ HappensRead w i x c h data_type count new =
       core = core;
       names = names;
       lines = history.Called
-          (On c (history.Request history.Read (length x.names.requests))) None ∷ [];
+          (On c (history.Request history.Read (length x.names.requests)))
+          (history.ToRead data_type count) ∷ [];
       sent = sent;
     })) w new
 
@@ -192,7 +193,7 @@ HappensWriteNotify w i x c h e new =
       core = core;
       names = names;
       lines = history.Called (On c (history.Request history.Put (length x.names.requests)))
-          (Some e) ∷ [];
+          (history.ToWrite e) ∷ [];
       sent = sent;
     })) w new
 
@@ -206,7 +207,8 @@ HappensWrite w i x c h e new =
     (record {
       core = core;
       names = names;
-      lines = history.Called (On c (history.Request history.Write x.names.writes)) (Some e) ∷ [];
+      lines = history.Called
+          (On c (history.Request history.Write x.names.writes)) (history.ToWrite e) ∷ [];
       sent = sent;
     })) w new
 
@@ -223,7 +225,7 @@ HappensSubscribe w i x c h data_type count mask new =
     (record {
       core = core;
       names = names;
-      lines = history.Called meant None ∷ [];
+      lines = history.Called meant (history.ToWatch data_type count mask) ∷ [];
       sent = sent;
     })) w new
 
@@ -237,7 +239,7 @@ HappensUnsubscribe w i x s new =
     (record {
       core = core;
       names = x.names;
-      lines = history.Called (cancelled s.1) None ∷ [];
+      lines = history.Called (cancelled s.1) history.Nothing ∷ [];
       sent = sent;
     })) w new
 
@@ -250,7 +252,8 @@ HappensClear w i x c h new =
     (record {
       core = core;
       names = x.names;
-      lines = history.Called (On c history.Clear) None ∷ lines_of OfCircuit x.names notices;
+      lines = history.Called (On c history.Clear) history.Nothing
+          ∷ lines_of OfCircuit x.names notices;
       sent = sent;
     })) w new
 

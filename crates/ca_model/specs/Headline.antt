@@ -6,13 +6,12 @@ use Rattle.ca_text.specs.Status.{bad_channel}
 use Rattle.ca_text.specs.declared.status.Status.{Status}
 use Rattle.ca_dbr.specs.declared.value.Outcome.{Outcome}
 use Rattle.ca_dbr.specs.declared.value.Outcome.TheVariants.{Done, Failed, Disconnected}
-use Rattle.ca_dbr.specs.Elements.{Elements}
 use Rattle.ca_wire.specs.Fields.{Fields}
 use Rattle.ca_model.specs.Speech.{Id, In, Speaks, Stored}
 use Rattle.ca_wire.specs.Messages.{mask_in}
 use Rattle.ca_model.specs.History.{Ask, Create, Request, Put, Intent, On, Reply, Removal, Update}
 use Rattle.ca_model.specs.History.{Sent, Told, Step, Circuit, Entry, Removed, Finished, Withdrawn}
-use Rattle.ca_model.specs.History.{Line, Called, Noticed, Updated, World}
+use Rattle.ca_model.specs.History.{Line, Called, Noticed, Updated, Wish, World}
 use Rattle.ca_model.specs.Channels.{AreSteps, CameIn, IsApplied, IsBusyUntil, IsDropped, IsFinished}
 use Rattle.ca_model.specs.Channels.{IsHeld, IsLive, IsOwnWrite, IsReply, IsRequest, IsUnread, IsUse}
 use Rattle.ca_model.specs.Channels.{KeepNames, IsLost, IsNamed, IsOpen, IsWaiting, Lasts, Meant}
@@ -125,9 +124,9 @@ module _
     pub once : (i l : ℕ) (intent : Intent) (o p : Outcome) → IsUse intent
         → At x i (Noticed intent o)
         → At x l (Noticed intent p) → i ≡ l
-    pub one_call : (i l : ℕ) (intent : Intent) (e f : Option Elements) → At x i (Called intent e)
-        → At x l (Called intent f) → i ≡ l
-    pub sent : (intent : Intent) (e : Option Elements) → IsRequest intent → In x (Called intent e)
+    pub one_call : (i l : ℕ) (intent : Intent) (a b : Wish) → At x i (Called intent a)
+        → At x l (Called intent b) → i ≡ l
+    pub sent : (intent : Intent) (a : Wish) → IsRequest intent → In x (Called intent a)
         → (n k : ℕ) × Stands w life intent n k
     pub at_one : (intent : Intent) (n k m l : ℕ) → IsRequest intent → Stands w life intent n k
         → Stands w life intent m l → (n ≡ m) × (k ≡ l)

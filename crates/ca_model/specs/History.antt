@@ -74,13 +74,21 @@ pub data Entry : Type 0 where
   Applied : ℕ → ℕ → ℕ → Stored → Bool → Entry
   Finished Withdrawn : ℕ → ℕ → Entry
 
--- The log of a client's life: a channel was opened under a name; another call was accepted, with a
--- value if it writes; a notice told the outcome of an intent, or an update of a subscription; a
+-- What a call asks for, beside its intent: of a read the type and the count; of a subscription
+-- these and the mask; of a write the value; of another nothing.
+pub data Wish : Type 0 where
+  Nothing : Wish
+  ToRead : (data_type count : ℕ) → Wish
+  ToWatch : (data_type count mask : ℕ) → Wish
+  ToWrite : Elements → Wish
+
+-- The log of a client's life: a channel was opened under a name; another call was accepted, with
+-- what it asks for; a notice told the outcome of an intent, or an update of a subscription; a
 -- call was refused; a request was collected or given up, with the place of the line that tells its
 -- outcome, if there is one.
 pub data Line : Type 0 where
   Opened : ℕ → List ℕ → Line
-  Called : Intent → Option Elements → Line
+  Called : Intent → Wish → Line
   Noticed Updated : Intent → Outcome → Line
   Refused : Refusal → Line
   Collected GaveUp : ℕ → Option ℕ → Line

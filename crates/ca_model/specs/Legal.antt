@@ -1,17 +1,19 @@
 -- Statement: what each end of each circuit sends is what it may send.
-use Rattle.std.specs.Prelude.{ℕ, ◌≡◌, ◌<◌, ◌≤◌, ◌⊎◌, true, List, None, Some, length, map, take}
+use Rattle.std.specs.Prelude.{ℕ, ◌≡◌, ◌<◌, ◌≤◌, ◌⊎◌, true, List, length, map, take}
 use Rattle.ca_text.specs.Place.{At}
 use Rattle.ca_dbr.specs.declared.value.Outcome.{Outcome}
 use Rattle.ca_dbr.specs.Elements.{Elements, base_of, bytes_of, count_of}
 use Rattle.ca_dbr.specs.Types.{base_number}
 use Rattle.ca_wire.specs.Fields.{Fields, padded}
+use Rattle.ca_wire.specs.Messages.{mask_in}
 use Rattle.ca_model.specs.Sends.{Conduct, IsDisconnect, IsFree, LegalClient, LegalServer}
 use Rattle.ca_model.specs.Sends.{SameIndex}
 use Rattle.ca_model.specs.Speech.{Creates, Gives, Id, In, name_in}
-use Rattle.ca_model.specs.History.{Clear, Create, Put, Request, Subscribe, Write, Intent, On}
-use Rattle.ca_model.specs.History.{OfCircuit, Reply, Removal, Sent, Told, Step}
+use Rattle.ca_model.specs.History.{Ask, Cancel, Clear, Create, Put, Read, Request, Subscribe, Write}
+use Rattle.ca_model.specs.History.{Intent, On, OfCircuit, Reply, Removal, Sent, Told, Step}
 use Rattle.ca_model.specs.History.{Circuit, Entry}
 use Rattle.ca_model.specs.History.{Removed, Line, Called, Noticed, Opened, World}
+use Rattle.ca_model.specs.History.{Nothing, ToRead, ToWatch, ToWrite, Wish}
 use Rattle.ca_model.specs.Channels.{Created, IsHeld, IsUncleared, Meant, OfCircuits}
 use Rattle.ca_model.specs.Channels.{OfClients, Stands}
 
@@ -37,10 +39,14 @@ BecomesLive c channel k h =
     × (t.cause ≡ Reply)
     × Creates t.message sid × At c.heard j h
 
+-- By these lines this call was accepted.
+abbrev pub IsCalled : List Line → Intent → Type 0
+IsCalled x intent = (asks : Wish) × In x (Called intent asks)
+
 -- By these lines a subscription was made, and neither the caller nor a refusal ended it.
 abbrev pub IsStanding : List Line → Intent → Type 0
 IsStanding x intent =
-    In x (Called intent None) × IsHeld x intent × ((o : Outcome) → In x (Noticed intent o) → ⊥)
+    IsCalled x intent × IsHeld x intent × ((o : Outcome) → In x (Noticed intent o) → ⊥)
 
 -- The message has these elements: their type, how many they are, and their bytes.
 pub record Carries (m : Fields) (e : Elements) : Type 0 where
@@ -48,9 +54,23 @@ pub record Carries (m : Fields) (e : Elements) : Type 0 where
   pub counted : m.count ≡ count_of e
   pub payload : m.payload ≡ padded (bytes_of e)
 
--- By these lines a write was called, with the value that the message carries.
-abbrev pub IsGiven : List Line → Intent → Fields → Type 0
-IsGiven x intent m = (given : Elements) × In x (Called intent (Some given)) × Carries m given
+-- The message asks for what its call did: a read for elements of that type and count, a
+-- subscription also for updates by that mask; a write has the value.
+abbrev pub AsksFor : Fields → Wish → Type 0
+AsksFor m Nothing = Unit {0}
+AsksFor m (ToRead data_type count) = (m.data_type ≡ data_type) × (m.count ≡ count)
+AsksFor m (ToWatch data_type count mask) =
+    (m.data_type ≡ data_type) × (m.count ≡ count) × (mask_in m ≡ mask)
+AsksFor m (ToWrite given) = Carries m given
+
+-- what a message with this intent may ask for
+abbrev pub MayAsk : Ask → Wish → Type 0
+MayAsk (Request Read number) (ToRead data_type count) = Unit {0}
+MayAsk (Request Put number) (ToWrite given) = Unit {0}
+MayAsk (Request Write number) (ToWrite given) = Unit {0}
+MayAsk (Subscribe number) (ToWatch data_type count mask) = Unit {0}
+MayAsk (Cancel number) Nothing = Unit {0}
+MayAsk ask asks = ⊥
 
 -- The message at place k is the first that the client sent from when it read a SERVER_DISCONN for
 -- this CID.
@@ -59,15 +79,15 @@ AnswersDisconnect c k cid =
     (j : ℕ) × (t : Told) × (h : Step) × At c.down j t × At c.heard j h × (h.sent ≡ k)
     × IsDisconnect cid t.message
 
--- What message m, at place k, was sent for was called by these lines. A CREATE_CHAN has the name
--- under which its channel was opened, and a write the value that was given. A CLEAR_CHANNEL was
--- called, or answers a SERVER_DISCONN.
+-- What message m, at place k, was sent for was called by these lines, and asks for what that call
+-- did. A CREATE_CHAN has the name under which its channel was opened. A CLEAR_CHANNEL was called,
+-- or answers a SERVER_DISCONN.
 abbrev pub WasCalled : Circuit → List Line → (k : ℕ) → Intent → Fields → Type 0
 WasCalled c x k (On a Create) m = In x (Opened a (name_in m))
-WasCalled c x k (On a Clear) m = In x (Called (On a Clear) None) ⊎ AnswersDisconnect c k m.p2
-WasCalled c x k (On a (Request Put number)) m = IsGiven x (On a (Request Put number)) m
-WasCalled c x k (On a (Request Write number)) m = IsGiven x (On a (Request Write number)) m
-WasCalled c x k (On a ask) m = In x (Called (On a ask) None)
+WasCalled c x k (On a Clear) m =
+    In x (Called (On a Clear) Nothing) ⊎ AnswersDisconnect c k m.p2
+WasCalled c x k (On a ask) m =
+    (asks : Wish) × In x (Called (On a ask) asks) × MayAsk ask asks × AsksFor m asks
 WasCalled c x k OfCircuit m = Unit {0}
 
 -- What goes out on a circuit. Each end sends what it may. What the client sends for a channel was
@@ -97,7 +117,7 @@ pub record LegalCircuit (n : ℕ) (c : Circuit) (x : List Line) (y : List Entry)
 -- An accepted subscription has an EVENT_ADD.
 abbrev pub IsSent : World → (life : ℕ) → List Line → Type 0
 IsSent w life x =
-    (channel number : ℕ) → In x (Called (On channel (Subscribe number)) None) → (n k : ℕ)
+    (channel number : ℕ) → IsCalled x (On channel (Subscribe number)) → (n k : ℕ)
     × Stands w life (On channel (Subscribe number)) n k
 
 -- By now the id is free that the client's message at place l gave.

@@ -1,13 +1,13 @@
 -- Histories that break a part of what is said of a channel that is created.
 use Rattle.std.proofs.Common.{◌≡◌, ℕ, ◌<◌, ◌≤◌, ◌⊎◌, inl, inr, List, [], ◌∷◌, refl, sym, ap, subst, ◌∙◌, arith}
 use Rattle.ca_text.proofs.Places.{At-within}
-use Rattle.std.specs.Prelude.{not, true, None, take}
+use Rattle.std.specs.Prelude.{not, true, take}
 use Rattle.ca_text.specs.Place.{At}
 use Rattle.ca_dbr.specs.declared.value.Outcome.{Outcome}
 use Rattle.ca_dbr.specs.declared.value.Outcome.TheVariants as outcome
 use Rattle.ca_wire.specs.Messages.{create_request, rights_reply}
 use Rattle.ca_model.specs.Speech.{Cid, Gives, In, Id}
-use Rattle.ca_model.specs.History.{Create, Clear, On, Intent, Sent, Told, Circuit, Entry, Line, Added, Removed, Opened, Called, Noticed, Reply, Removal}
+use Rattle.ca_model.specs.History.{Create, Clear, On, Intent, Sent, Told, Circuit, Entry, Line, Added, Removed, Opened, Called, Nothing, Noticed, Reply, Removal}
 use Rattle.ca_model.specs.Channels.{IsLive, IsNamed, IsOpen, IsUncleared, IsUnread, IsLost}
 use Rattle.ca_model_examples.specs.Worlds.{created_told, disconnected, rights_told, AnyDue, creating, step, temp, temp_name, world}
 use Rattle.ca_model_examples.specs.Parts.{Part, Holds, BreaksOnly, IsSafeNow, InCircuit}
@@ -162,7 +162,7 @@ gone-twice = (gone-twice-rest, λ h. (let a = its-part part.DisconnectedOnce (cr
 
 -- ---- what the client is told
 
-abbrev live-told : (x : List Line) → (In (take 1 x) (Called (On 0 Clear) None) → ⊥) → Reads AnyDue Shows Means (world (created_closed (step 1 1 2 ∷ []) ∷ []) x temp_there) 0 x 1 (On 0 Create) outcome.Done
+abbrev live-told : (x : List Line) → (In (take 1 x) (Called (On 0 Clear) Nothing) → ⊥) → Reads AnyDue Shows Means (world (created_closed (step 1 1 2 ∷ []) ∷ []) x temp_there) 0 x 1 (On 0 Create) outcome.Done
 live-told x held = record {
   n = 0;
   c = created_closed (step 1 1 2 ∷ []);

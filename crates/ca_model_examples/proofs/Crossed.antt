@@ -1,12 +1,12 @@
 -- Updates of two circuits are seen in the order in which they were read; and an id that is given too early is safe for now.
 use Rattle.std.proofs.Common.{◌≡◌, ℕ, ◌<◌, inl, inr, List, [], ◌∷◌, refl, sym, ap, subst, ◌∙◌, arith}
-use Rattle.std.specs.Prelude.{take, Option, None}
+use Rattle.std.specs.Prelude.{take, Option}
 use Rattle.ca_text.specs.Place.{At}
 use Rattle.ca_dbr.specs.declared.value.Outcome.{Outcome}
 use Rattle.ca_dbr.specs.declared.value.Outcome.TheVariants as outcome
 use Rattle.ca_wire.specs.Fields.{Fields}
 use Rattle.ca_model.specs.Speech.{Cid, In, Stored}
-use Rattle.ca_model.specs.History.{Circuit, Intent, On, OfCircuit, Create, Line, Entry, Opened, Called, Noticed, Updated, Subscribe, Request, Put, Sent, Told, Update, Added, Applied, Finished, Waits, Withdrawn, Clear, Cancel}
+use Rattle.ca_model.specs.History.{Circuit, Intent, On, OfCircuit, Create, Line, Entry, Opened, Called, Nothing, Noticed, Updated, Subscribe, Request, Put, Sent, Told, Update, Added, Applied, Finished, Waits, Withdrawn, Clear, Cancel}
 use Rattle.ca_model.specs.Channels.{AreSteps, IsApplied, IsHeld, IsRequest, Joins, OfCircuits, OfClients, Stands, Suits}
 use Rattle.ca_model.specs.Headline.{ActsOnRecord, AnswersOwn, CompletesOnce, FollowsRecord, NotTwice, Reads, Safe, Sees}
 use Rattle.ca_model.specs.Legal.{Legal}
@@ -28,9 +28,9 @@ below-2 : (i : ℕ) → i ≡ 1 → i < 2
 below-2 i e = omega (arith, e)
 
 -- none of these lines is a call
-no-call : (n : ℕ) (o p : Outcome) (intent : Intent) → In (take n (crossed_lines o p)) (Called intent None) → ⊥
+no-call : (n : ℕ) (o p : Outcome) (intent : Intent) → In (take n (crossed_lines o p)) (Called intent Nothing) → ⊥
 no-call n o p intent h =
-    each-at (λ (k : ℕ) (l : Line). l ≡ Called intent None → ⊥) (crossed_lines o p) ((λ e. cc), ((λ e. cc), tt)) h.0 _ (at-take n (crossed_lines o p) h.0 _ h.1) refl
+    each-at (λ (k : ℕ) (l : Line). l ≡ Called intent Nothing → ⊥) (crossed_lines o p) ((λ e. cc), ((λ e. cc), tt)) h.0 _ (at-take n (crossed_lines o p) h.0 _ h.1) refl
 
 held : (n : ℕ) (o p : Outcome) (intent : Intent) → On 0 (Subscribe 0) ≡ intent → IsHeld (take n (crossed_lines o p)) intent
 held n o p intent is = subst (λ (i : Intent). IsHeld (take n (crossed_lines o p)) i) is (no-call n o p (On 0 Clear), no-call n o p (On 0 (Cancel 0)))

@@ -1,31 +1,31 @@
 -- Of each of these histories one part of what is legal is broken, or none.
 use Rattle.std.proofs.Common.{◌≡◌, ◌≢◌, ℕ, ◌<◌, ◌≤◌, ◌⊎◌, inl, inr, List, [], ◌∷◌, refl, sym, ap, subst, ◌∙◌, arith}
-use Rattle.std.specs.Prelude.{Bool, true, false, None, Some, get_or, length, replicate, take}
+use Rattle.std.specs.Prelude.{Bool, true, false, get_or, length, replicate, take}
 use Rattle.ca_text.specs.Place.{At}
 use Rattle.ca_text.proofs.Places.{At-within, some_is}
 use Rattle.ca_text.specs.declared.command.Command.TheVariants as command
 use Rattle.ca_dbr.specs.declared.value.Outcome.{Outcome}
-use Rattle.ca_dbr.specs.Elements.{Elements, bytes_of, signed_bytes_4}
-use Rattle.ca_wire.specs.Fields.{Fields, padded}
+use Rattle.ca_dbr.specs.Elements.{signed_bytes_4}
+use Rattle.ca_wire.specs.Fields.{Fields}
 use Rattle.ca_wire.specs.Header.{HeaderFits, header_spelling, number16}
 use Rattle.ca_wire.specs.Message.{header_of}
 use Rattle.ca_wire.specs.Messages.{cancel_reply, cleared_reply}
 use Rattle.ca_wire.proofs.Headers.{header-spells}
 use Rattle.ca_model.specs.Speech.{Cid, Ioid, Creates, Gives, Id, In, Is, SubId, name_in, sid_in}
-use Rattle.ca_model.specs.History.{Cancel, Clear, Create, Read, Request, Subscribe, Write, Intent, On, Sent, Told, Step, Circuit, Entry, Line, Added, Called, Noticed, Opened}
+use Rattle.ca_model.specs.History.{Cancel, Clear, Create, Read, Request, Subscribe, Write, Intent, On, Sent, Told, Step, Circuit, Entry, Line, Added, Called, Noticed, Opened, Nothing, ToRead, ToWatch, ToWrite, Wish}
 use Rattle.ca_model.specs.Channels.{IsHeld, Meant}
 use Rattle.ca_model.specs.Sends.{Conduct, Frees, HasChannel, IsFree, SameIndex, IsConnected, IsDisconnect, IsOnChannel, IsOpenAt, IsRefused, IsUncancelled, ReadsBetween}
-use Rattle.ca_model.specs.Legal.{BecomesLive, IsStanding, Legal, WasCalled, client_conduct, server_conduct}
+use Rattle.ca_model.specs.Legal.{AsksFor, BecomesLive, Carries, IsStanding, Legal, MayAsk, WasCalled, client_conduct, server_conduct}
 use Rattle.ca_model_examples.specs.Worlds.{putting, clearing, temp, adding, created_told, creating, disconnected, long, reading, step, temp_name, world}
 use Rattle.ca_model_examples.specs.Unsafe.{cancelling, opened, temp_removed, temp_there, updated}
-use Rattle.ca_model_examples.specs.Illegal.{added_after, added_again, asked_after, asked_again, asked_with, both_asked, both_created, called_at, called_in, calls, cancel_called, clears_lost, confirm_out, created_again, created_read, goes_out, live_again, read_out, reads_out, refused, refused_out, alone, writing, unasked, sent_in, subscribe_called, told_closed, told_so, two_circuits, uncalled_in, update_out, write_called}
+use Rattle.ca_model_examples.specs.Illegal.{added_after, added_again, asked_after, asked_again, asked_with, both_asked, both_created, called_at, called_in, calls, cancel_called, clears_lost, confirm_out, created_again, created_read, goes_out, live_again, read_for, read_out, reads_out, refused, refused_out, alone, writing, unasked, sent_in, subscribe_called, told_closed, told_so, two_circuits, uncalled_in, update_out, watch_for, write_called}
 use Rattle.ca_model_examples.specs.Parts.{CalledSo, HeldSo, MaySend, Sending, SendsWrong, SentSo}
 use Rattle.ca_model_examples.specs.Parts as part
 use Rattle.ca_model_examples.proofs.Lists.{each-at, none-at, one-at, two-at}
 use Rattle.ca_model_examples.proofs.Quiet.{clash, none}
 use Rattle.ca_model_examples.proofs.Opened.{created-here}
 use Rattle.ca_model_examples.proofs.Creations.{channel-of, only-added, uncleared}
-use Rattle.ca_model_examples.proofs.Sent.{all-legal, all-on-sid, is, is-so, its-sent, on-channel-so, on-sid, quiet-sends, quiet-sent, sends, unrefused}
+use Rattle.ca_model_examples.proofs.Sent.{all-legal, all-on-sid, is, is-so, its-sent, mask-is, on-channel-so, on-sid, quiet-sends, quiet-sent, sends, unrefused}
 
 -- ---- what a client sends
 
@@ -42,7 +42,7 @@ read-uncalled-rest part.OnChannel ne = sends part.OnChannel (read_out (step 1 0 
 read-uncalled-rest p ne = quiet-sends p (read_out (step 1 0 0 ∷ [])) opened temp_there refl refl refl
 
 pub read-uncalled : SendsWrong part.HasCall (uncalled_in (read_out (step 1 0 0 ∷ [])))
-read-uncalled = (read-uncalled-rest, λ h. (let c = its-sent part.HasCall (read_out (step 1 0 0 ∷ [])) opened temp_there refl refl h.0 1 (reading 0 7) refl in let e : Called (On 0 (Request Read 0)) None ≡ Opened 0 temp_name = (one-at (Opened 0 temp_name) c.0 _ c.1).1 in cc))
+read-uncalled = (read-uncalled-rest, λ h. (let c = its-sent part.HasCall (read_out (step 1 0 0 ∷ [])) opened temp_there refl refl h.0 1 (reading 0 7) refl in let e : Called (On 0 (Request Read 0)) c.0 ≡ Opened 0 temp_name = (one-at (Opened 0 temp_name) c.1.0 _ c.1.1).1 in cc))
 
 read-too-soon-rest : (p : Sending) → (p ≡ part.OnChannel → ⊥) → MaySend p (sent_in (read_out []))
 read-too-soon-rest part.OnChannel ne = absurd (ne refl)
@@ -85,6 +85,7 @@ pub write-alone : SendsWrong part.OnChannel (sent_in (alone (writing)))
 write-alone = (write-alone-rest, alone-fails (writing) (inr (inr (inl refl))))
 
 add-alone-rest : (p : Sending) → (p ≡ part.OnChannel → ⊥) → MaySend p (sent_in (alone (adding 0 9)))
+unfolding number16
 add-alone-rest part.OnChannel ne = absurd (ne refl)
 add-alone-rest p ne = quiet-sends p (alone (adding 0 9)) (calls (alone (adding 0 9)).up) temp_there refl refl refl
 
@@ -99,6 +100,7 @@ pub clear-alone : SendsWrong part.OnChannel (sent_in (alone (clearing)))
 clear-alone = (clear-alone-rest, alone-fails (clearing) (inr (inr (inr (inr (inr refl))))))
 
 shared-rest : (p : Sending) → (p ≡ part.Ids → ⊥) → MaySend p (sent_in (goes_out (adding 0 9 ∷ adding 1 9 ∷ [])))
+unfolding number16
 shared-rest part.Ids ne = absurd (ne refl)
 shared-rest part.OnChannel ne = sends part.OnChannel (goes_out (adding 0 9 ∷ adding 1 9 ∷ [])) (calls (goes_out (adding 0 9 ∷ adding 1 9 ∷ [])).up) temp_there refl refl (all-on-sid (goes_out (adding 0 9 ∷ adding 1 9 ∷ [])) (calls (goes_out (adding 0 9 ∷ adding 1 9 ∷ [])).up) temp_there ((adding 0 9).message) ((adding 1 9).message ∷ []) 1 refl refl refl refl refl refl refl) tt
 shared-rest p ne = quiet-sends p (goes_out (adding 0 9 ∷ adding 1 9 ∷ [])) (calls (goes_out (adding 0 9 ∷ adding 1 9 ∷ [])).up) temp_there refl refl refl
@@ -127,6 +129,7 @@ cancel-for c sent k m at e =
     ) k m (subst (λ (s : List Fields). At s k m) sent at) e
 
 cancel-legal-each : (p : Sending) → MaySend p (sent_in (goes_out (adding 0 9 ∷ cancelling ∷ [])))
+unfolding number16
 cancel-legal-each part.OnChannel = sends part.OnChannel (goes_out (adding 0 9 ∷ cancelling ∷ [])) (calls (goes_out (adding 0 9 ∷ cancelling ∷ [])).up) temp_there refl refl (all-on-sid (goes_out (adding 0 9 ∷ cancelling ∷ [])) (calls (goes_out (adding 0 9 ∷ cancelling ∷ [])).up) temp_there ((adding 0 9).message) (cancelling.message ∷ []) 1 refl refl refl refl refl refl refl) tt
 cancel-legal-each part.Cancels = sends part.Cancels (goes_out (adding 0 9 ∷ cancelling ∷ [])) (calls (goes_out (adding 0 9 ∷ cancelling ∷ [])).up) temp_there refl refl (cancel-for (goes_out (adding 0 9 ∷ cancelling ∷ [])) refl) tt
 cancel-legal-each p = quiet-sends p (goes_out (adding 0 9 ∷ cancelling ∷ [])) (calls (goes_out (adding 0 9 ∷ cancelling ∷ [])).up) temp_there refl refl refl
@@ -221,6 +224,7 @@ UpdateFor c k m =
     × (IsRefused (server_conduct c) j add → ⊥)
 
 update-legal-each : (p : Sending) → MaySend p (sent_in (update_out (step 0 0 0 ∷ step 1 0 0 ∷ [])))
+unfolding number16
 update-legal-each part.OnChannel = sends part.OnChannel (update_out (step 0 0 0 ∷ step 1 0 0 ∷ [])) (calls (update_out (step 0 0 0 ∷ step 1 0 0 ∷ [])).up) temp_there refl refl (all-on-sid (update_out (step 0 0 0 ∷ step 1 0 0 ∷ [])) (calls (update_out (step 0 0 0 ∷ step 1 0 0 ∷ [])).up) temp_there ((adding 0 9).message) [] 1 refl refl refl refl refl refl refl) tt
 update-legal-each part.Updates = sends part.Updates (update_out (step 0 0 0 ∷ step 1 0 0 ∷ [])) (calls (update_out (step 0 0 0 ∷ step 1 0 0 ∷ [])).up) temp_there refl refl (λ k m at e full. each-at (λ (i : ℕ) (z : Fields). Is command.EventAdd z → UpdateFor (update_out (step 0 0 0 ∷ step 1 0 0 ∷ [])) i z) (server_conduct (update_out (step 0 0 0 ∷ step 1 0 0 ∷ []))).sent ((λ f. absurd (omega (arith, f))), ((λ f. (0, 1, 1, (adding 0 9).message, (created_told.message, refl, (refl, refl), refl, omega arith, λ j r reads clears. none (is 12) (server_conduct (update_out (step 0 0 0 ∷ step 1 0 0 ∷ []))).came refl j r reads.1 (is-so 12 r clears.0)), (λ l m a b. absurd (omega (arith, a, b))), (1, refl, refl, omega arith, omega arith), (refl, refl), (λ l r after reads cancel. absurd (none (is 2) (server_conduct (update_out (step 0 0 0 ∷ step 1 0 0 ∷ []))).came refl l r reads.1 (is-so 2 r cancel))), unrefused (server_conduct (update_out (step 0 0 0 ∷ step 1 0 0 ∷ []))) refl 1 (adding 0 9).message)), tt)) k m at e) tt
 update-legal-each p = quiet-sends p (update_out (step 0 0 0 ∷ step 1 0 0 ∷ [])) (calls (update_out (step 0 0 0 ∷ step 1 0 0 ∷ [])).up) temp_there refl refl refl
@@ -229,6 +233,7 @@ pub update-legal : Legal (sent_in (update_out (step 0 0 0 ∷ step 1 0 0 ∷ [])
 update-legal = all-legal _ update-legal-each
 
 update-unread-rest : (p : Sending) → (p ≡ part.Updates → ⊥) → MaySend p (sent_in (update_out (step 0 0 0 ∷ [])))
+unfolding number16
 update-unread-rest part.Updates ne = absurd (ne refl)
 update-unread-rest part.OnChannel ne = sends part.OnChannel (update_out (step 0 0 0 ∷ [])) (calls (update_out (step 0 0 0 ∷ [])).up) temp_there refl refl (all-on-sid (update_out (step 0 0 0 ∷ [])) (calls (update_out (step 0 0 0 ∷ [])).up) temp_there ((adding 0 9).message) [] 1 refl refl refl refl refl refl refl) tt
 update-unread-rest p ne = quiet-sends p (update_out (step 0 0 0 ∷ [])) (calls (update_out (step 0 0 0 ∷ [])).up) temp_there refl refl refl
@@ -237,6 +242,7 @@ pub update-unread : SendsWrong part.Updates (sent_in (update_out (step 0 0 0 ∷
 update-unread = (update-unread-rest, λ h. (let u = its-sent part.Updates (update_out (step 0 0 0 ∷ [])) (calls (update_out (step 0 0 0 ∷ [])).up) temp_there refl refl h.0 1 (updated 0 21).message refl refl (λ e. cc) in let b = (one-at 0 u.1 u.6.0 u.6.2).1 in let early = u.6.3 in omega (arith, b, early)))
 
 refused-legal-each : (p : Sending) → MaySend p (sent_in (refused_out []))
+unfolding number16
 refused-legal-each part.OnChannel = sends part.OnChannel (refused_out []) (calls (refused_out []).up) temp_there refl refl (all-on-sid (refused_out []) (calls (refused_out []).up) temp_there ((adding 0 9).message) [] 1 refl refl refl refl refl refl refl) tt
 refused-legal-each p = quiet-sends p (refused_out []) (calls (refused_out []).up) temp_there refl refl refl
 
@@ -244,6 +250,7 @@ pub refused-legal : Legal (sent_in (refused_out []))
 refused-legal = all-legal _ refused-legal-each
 
 refused-updated-rest : (p : Sending) → (p ≡ part.Updates → ⊥) → MaySend p (sent_in (refused_out (updated 0 21 ∷ [])))
+unfolding number16
 refused-updated-rest part.Updates ne = absurd (ne refl)
 refused-updated-rest part.OnChannel ne = sends part.OnChannel (refused_out (updated 0 21 ∷ [])) (calls (refused_out (updated 0 21 ∷ [])).up) temp_there refl refl (all-on-sid (refused_out (updated 0 21 ∷ [])) (calls (refused_out (updated 0 21 ∷ [])).up) temp_there ((adding 0 9).message) [] 1 refl refl refl refl refl refl refl) tt
 refused-updated-rest p ne = quiet-sends p (refused_out (updated 0 21 ∷ [])) (calls (refused_out (updated 0 21 ∷ [])).up) temp_there refl refl refl
@@ -280,6 +287,7 @@ ConfirmFor c k m =
     (j : ℕ) × (r : Fields) × At (server_conduct c).came j r × At (server_conduct c).read j k × Is command.EventCancel r × (r.p1 ≡ m.p1) × (r.p2 ≡ m.p2)
 
 confirm-legal-each : (p : Sending) → MaySend p (sent_in (confirm_out (step 0 0 0 ∷ step 1 0 0 ∷ step 1 0 0 ∷ [])))
+unfolding number16
 confirm-legal-each part.OnChannel = sends part.OnChannel (confirm_out (step 0 0 0 ∷ step 1 0 0 ∷ step 1 0 0 ∷ [])) (calls (confirm_out (step 0 0 0 ∷ step 1 0 0 ∷ step 1 0 0 ∷ [])).up) temp_there refl refl (all-on-sid (confirm_out (step 0 0 0 ∷ step 1 0 0 ∷ step 1 0 0 ∷ [])) (calls (confirm_out (step 0 0 0 ∷ step 1 0 0 ∷ step 1 0 0 ∷ [])).up) temp_there ((adding 0 9).message) (cancelling.message ∷ []) 1 refl refl refl refl refl refl refl) tt
 confirm-legal-each part.Cancels = sends part.Cancels (confirm_out (step 0 0 0 ∷ step 1 0 0 ∷ step 1 0 0 ∷ [])) (calls (confirm_out (step 0 0 0 ∷ step 1 0 0 ∷ step 1 0 0 ∷ [])).up) temp_there refl refl (cancel-for (confirm_out (step 0 0 0 ∷ step 1 0 0 ∷ step 1 0 0 ∷ [])) refl) tt
 confirm-legal-each part.Confirmations = sends part.Confirmations (confirm_out (step 0 0 0 ∷ step 1 0 0 ∷ step 1 0 0 ∷ [])) (calls (confirm_out (step 0 0 0 ∷ step 1 0 0 ∷ step 1 0 0 ∷ [])).up) temp_there refl refl (λ k m at e empty. each-at (λ (i : ℕ) (z : Fields). Is command.EventAdd z → ConfirmFor (confirm_out (step 0 0 0 ∷ step 1 0 0 ∷ step 1 0 0 ∷ [])) i z) (server_conduct (confirm_out (step 0 0 0 ∷ step 1 0 0 ∷ step 1 0 0 ∷ []))).sent ((λ f. absurd (omega (arith, f))), ((λ f. (2, cancelling.message, refl, refl, refl, refl, refl)), tt)) k m at e) tt
@@ -289,6 +297,7 @@ pub confirm-legal : Legal (sent_in (confirm_out (step 0 0 0 ∷ step 1 0 0 ∷ s
 confirm-legal = all-legal _ confirm-legal-each
 
 confirm-unread-rest : (p : Sending) → (p ≡ part.Confirmations → ⊥) → MaySend p (sent_in (confirm_out (step 0 0 0 ∷ step 1 0 0 ∷ [])))
+unfolding number16
 confirm-unread-rest part.Confirmations ne = absurd (ne refl)
 confirm-unread-rest part.OnChannel ne = sends part.OnChannel (confirm_out (step 0 0 0 ∷ step 1 0 0 ∷ [])) (calls (confirm_out (step 0 0 0 ∷ step 1 0 0 ∷ [])).up) temp_there refl refl (all-on-sid (confirm_out (step 0 0 0 ∷ step 1 0 0 ∷ [])) (calls (confirm_out (step 0 0 0 ∷ step 1 0 0 ∷ [])).up) temp_there ((adding 0 9).message) (cancelling.message ∷ []) 1 refl refl refl refl refl refl refl) tt
 confirm-unread-rest part.Cancels ne = sends part.Cancels (confirm_out (step 0 0 0 ∷ step 1 0 0 ∷ [])) (calls (confirm_out (step 0 0 0 ∷ step 1 0 0 ∷ [])).up) temp_there refl refl (cancel-for (confirm_out (step 0 0 0 ∷ step 1 0 0 ∷ [])) refl) tt
@@ -297,8 +306,9 @@ confirm-unread-rest p ne = quiet-sends p (confirm_out (step 0 0 0 ∷ step 1 0 0
 pub confirm-unread : SendsWrong part.Confirmations (sent_in (confirm_out (step 0 0 0 ∷ step 1 0 0 ∷ [])))
 confirm-unread = (confirm-unread-rest, λ h. (let f = its-sent part.Confirmations (confirm_out (step 0 0 0 ∷ step 1 0 0 ∷ [])) (calls (confirm_out (step 0 0 0 ∷ step 1 0 0 ∷ [])).up) temp_there refl refl h.0 1 _ refl refl refl in let two = each-at (λ (i : ℕ) (z : Fields). Is command.EventCancel z → i ≡ 2) (server_conduct (confirm_out (step 0 0 0 ∷ step 1 0 0 ∷ []))).came ((λ e. absurd (omega (arith, e))), ((λ e. absurd (omega (arith, e))), ((λ e. refl), tt))) f.0 f.1 f.2 f.4 in let w = At-within (server_conduct (confirm_out (step 0 0 0 ∷ step 1 0 0 ∷ []))).read f.0 1 f.3 in omega (arith, two, w)))
 
--- an id is given again: the cancel's confirmation was read after so many messages
+-- an id is given again: the cancel's confirmation was read after n messages
 added-each : (n : ℕ) (p : Sending) → (p ≡ part.Ids → ⊥) → MaySend p (sent_in (added_after n))
+unfolding number16
 added-each n part.Ids ne = absurd (ne refl)
 added-each n part.OnChannel ne = sends part.OnChannel (added_after n) (calls (added_after n).up) temp_there refl refl (all-on-sid (added_after n) (calls (added_after n).up) temp_there ((adding 0 9).message) (cancelling.message ∷ (adding 1 9).message ∷ []) 1 refl refl refl refl refl refl refl) tt
 added-each n part.Cancels ne = sends part.Cancels (added_after n) (calls (added_after n).up) temp_there refl refl (λ k m at e. each-at (λ (i : ℕ) (z : Fields). Is command.EventCancel z → (l : ℕ) × (add : Fields) × At (client_conduct (added_after n)).sent l add × Is command.EventAdd add × (l < i) × (add.p1 ≡ z.p1) × (add.p2 ≡ z.p2) × IsUncancelled (client_conduct (added_after n)) l i add) (client_conduct (added_after n)).sent (
@@ -376,7 +386,7 @@ added-too-soon = (
       not-confirmed e f.1 f.2 f.3 add says.0 says.1 f.9),
 )
 
--- a CID is given again: the reply to the clear was read after so many messages
+-- a CID is given again: the reply to the clear was read after n messages
 asked-on : (n : ℕ) → SentSo part.OnChannel 0 (asked_after n) (calls (asked_after n).up) temp_there
 asked-on n = λ k r at on. each-at (λ (i : ℕ) (z : Fields). IsOnChannel z → (p q cid : ℕ) × HasChannel (client_conduct (asked_after n)) i p q cid (sid_in z)
     × ((Is command.ClearChannel z × (z.p2 ≡ cid)) ⊎ ((Is command.ClearChannel z → ⊥) × ((l : ℕ) (d : Fields) → q < l → ReadsBetween (client_conduct (asked_after n)) p i l d → IsDisconnect cid d → ⊥)))) (client_conduct (asked_after n)).sent (
@@ -525,9 +535,9 @@ write-other-rest part.HasCall ne = absurd (ne refl)
 write-other-rest part.OnChannel ne = sends part.OnChannel (goes_out (writing ∷ [])) (write_called 23) temp_there refl refl (all-on-sid (goes_out (writing ∷ [])) (write_called 23) temp_there (writing.message) [] 1 refl refl refl refl refl refl refl) tt
 write-other-rest p ne = quiet-sends p (goes_out (writing ∷ [])) (write_called 23) temp_there refl refl refl
 
-abbrev value-of : Line → Elements
-value-of (Called i (Some e)) = e
-value-of l = (long 0).value
+abbrev wish-of : Line → Wish
+wish-of (Called i a) = a
+wish-of l = Nothing
 
 pub write-other : SendsWrong part.HasCall (called_in (write_called 23) (goes_out (writing ∷ [])))
 unfolding signed_bytes_4
@@ -535,12 +545,12 @@ write-other = (
   write-other-rest,
   λ h.
       (let c = its-sent part.HasCall (goes_out (writing ∷ [])) (write_called 23) temp_there refl refl h.0 1 writing refl in
-      let call = two-at (Opened 0 temp_name) (Called (On 0 (Request Write 0)) (Some (long 23).value)) c.1.0 (Called (On 0 (Request Write 0)) (Some c.0)) c.1.1 in
+      let call = two-at (Opened 0 temp_name) (Called (On 0 (Request Write 0)) (ToWrite (long 23).value)) c.1.0 (Called (On 0 (Request Write 0)) c.0) c.1.1 in
       elim call [
-        | inl first ↦ (let e : Called (On 0 (Request Write 0)) (Some c.0) ≡ Opened 0 temp_name = first.1 in cc)
+        | inl first ↦ (let e : Called (On 0 (Request Write 0)) c.0 ≡ Opened 0 temp_name = first.1 in cc)
         | inr second ↦
-            let given : c.0 ≡ (long 23).value = ap value-of second.1 in
-            let byte : ◌≡◌ {A = ℕ} 22 23 = ap (λ (l : List ℕ). get_or l 3 0) (c.2.payload ∙ ap (λ (e : Elements). padded (bytes_of e)) given) in
+            let carries : Carries writing.message (long 23).value = subst (λ (a : Wish). AsksFor writing.message a) (ap wish-of second.1) c.3 in
+            let byte : ◌≡◌ {A = ℕ} 22 23 = ap (λ (l : List ℕ). get_or l 3 0) carries.payload in
             omega (arith, byte)
       ]),
 )
@@ -556,7 +566,7 @@ cancel-uncalled = (
   cancel-uncalled-rest,
   λ h.
       (let c = its-sent part.HasCall (goes_out (adding 0 9 ∷ cancelling ∷ [])) (calls (creating ∷ adding 0 9 ∷ [])) temp_there refl refl h.0 2 cancelling refl in
-      each-at (λ (i : ℕ) (l : Line). l ≡ Called (On 0 (Cancel 0)) None → ⊥) (calls (creating ∷ adding 0 9 ∷ [])) ((λ e. cc), ((λ e. cc), tt)) c.0 _ c.1 refl),
+      each-at (λ (i : ℕ) (l : Line). l ≡ Called (On 0 (Cancel 0)) c.0 → ⊥) (calls (creating ∷ adding 0 9 ∷ [])) ((λ e. cc), ((λ e. cc), tt)) c.1.0 _ c.1.1 refl),
 )
 
 -- A CLEAR_CHANNEL goes out on the channel, once the creation's reply was read.
@@ -580,8 +590,8 @@ clear-uncalled-rest part.OnChannel ne = sends part.OnChannel (goes_out (clearing
 clear-uncalled-rest p ne = quiet-sends p (goes_out (clearing ∷ [])) opened temp_there refl refl refl
 
 -- nobody called it
-clear-not-called : (At opened 0 (Opened 0 temp_name)) → In opened (Called (On 0 Clear) None) → ⊥
-clear-not-called one c = (let e : Called (On 0 Clear) None ≡ Opened 0 temp_name = (one-at (Opened 0 temp_name) c.0 _ c.1).1 in cc)
+clear-not-called : (At opened 0 (Opened 0 temp_name)) → In opened (Called (On 0 Clear) Nothing) → ⊥
+clear-not-called one c = (let e : Called (On 0 Clear) Nothing ≡ Opened 0 temp_name = (one-at (Opened 0 temp_name) c.0 _ c.1).1 in cc)
 
 pub clear-uncalled : SendsWrong part.HasCall (uncalled_in (goes_out (clearing ∷ [])))
 clear-uncalled = (
@@ -651,6 +661,69 @@ create-other = (
       omega (arith, long_is)),
 )
 
+-- ---- a read and a subscription, for what their calls asked
+
+read-for-rest : (a : Wish) (p : Sending) → (p ≡ part.HasCall → ⊥) → MaySend p (called_in (read_for a) (goes_out (reading 0 7 ∷ [])))
+read-for-rest a part.HasCall ne = absurd (ne refl)
+read-for-rest a part.OnChannel ne = sends part.OnChannel (goes_out (reading 0 7 ∷ [])) (read_for a) temp_there refl refl (all-on-sid (goes_out (reading 0 7 ∷ [])) (read_for a) temp_there ((reading 0 7).message) [] 1 refl refl refl refl refl refl refl) tt
+read-for-rest a p ne = quiet-sends p (goes_out (reading 0 7 ∷ [])) (read_for a) temp_there refl refl refl
+
+read-for-each : (p : Sending) → MaySend p (called_in (read_for (ToRead 5 1)) (goes_out (reading 0 7 ∷ [])))
+read-for-each part.HasCall = quiet-sends part.HasCall (goes_out (reading 0 7 ∷ [])) (read_for (ToRead 5 1)) temp_there refl refl refl
+read-for-each p = read-for-rest (ToRead 5 1) p (λ e. cc)
+
+pub read-for-legal : Legal (called_in (read_for (ToRead 5 1)) (goes_out (reading 0 7 ∷ [])))
+read-for-legal = all-legal _ read-for-each
+
+-- it goes out for one LONG, if it may
+read-asks : (a : Wish) → MaySend part.HasCall (called_in (read_for a) (goes_out (reading 0 7 ∷ []))) → MayAsk (Request Read 0) a × AsksFor (reading 0 7).message a
+read-asks a h =
+    let c = its-sent part.HasCall (goes_out (reading 0 7 ∷ [])) (read_for a) temp_there refl refl h.0 1 (reading 0 7) refl in
+    elim (two-at (Opened 0 temp_name) (Called (On 0 (Request Read 0)) a) c.1.0 (Called (On 0 (Request Read 0)) c.0) c.1.1) [
+      | inl first ↦ absurd (let e : Called (On 0 (Request Read 0)) c.0 ≡ Opened 0 temp_name = first.1 in cc)
+      | inr second ↦ subst (λ (b : Wish). MayAsk (Request Read 0) b × AsksFor (reading 0 7).message b) (ap wish-of second.1) (c.2, c.3)
+    ]
+
+pub read-of-other-type : SendsWrong part.HasCall (called_in (read_for (ToRead 6 1)) (goes_out (reading 0 7 ∷ [])))
+read-of-other-type = (read-for-rest (ToRead 6 1), λ h. (let e : ◌≡◌ {A = ℕ} 5 6 = (read-asks (ToRead 6 1) h).1.0 in omega (arith, e)))
+
+pub read-of-other-count : SendsWrong part.HasCall (called_in (read_for (ToRead 5 2)) (goes_out (reading 0 7 ∷ [])))
+read-of-other-count = (read-for-rest (ToRead 5 2), λ h. (let e : ◌≡◌ {A = ℕ} 1 2 = (read-asks (ToRead 5 2) h).1.1 in omega (arith, e)))
+
+pub read-for-nothing : SendsWrong part.HasCall (called_in (read_for Nothing) (goes_out (reading 0 7 ∷ [])))
+read-for-nothing = (read-for-rest Nothing, λ h. (read-asks Nothing h).0)
+
+add-for-rest : (a : Wish) (p : Sending) → (p ≡ part.HasCall → ⊥) → MaySend p (called_in (watch_for a) (goes_out (adding 0 9 ∷ [])))
+add-for-rest a part.HasCall ne = absurd (ne refl)
+add-for-rest a part.OnChannel ne = sends part.OnChannel (goes_out (adding 0 9 ∷ [])) (watch_for a) temp_there refl refl (all-on-sid (goes_out (adding 0 9 ∷ [])) (watch_for a) temp_there ((adding 0 9).message) [] 1 refl refl refl refl refl refl refl) tt
+add-for-rest a p ne = quiet-sends p (goes_out (adding 0 9 ∷ [])) (watch_for a) temp_there refl refl refl
+
+add-for-each : (p : Sending) → MaySend p (called_in (watch_for (ToWatch 5 1 1)) (goes_out (adding 0 9 ∷ [])))
+unfolding number16
+add-for-each part.HasCall = quiet-sends part.HasCall (goes_out (adding 0 9 ∷ [])) (watch_for (ToWatch 5 1 1)) temp_there refl refl refl
+add-for-each p = add-for-rest (ToWatch 5 1 1) p (λ e. cc)
+
+pub add-for-legal : Legal (called_in (watch_for (ToWatch 5 1 1)) (goes_out (adding 0 9 ∷ [])))
+add-for-legal = all-legal _ add-for-each
+
+-- it goes out for one LONG, by VALUE
+add-asks : (a : Wish) → MaySend part.HasCall (called_in (watch_for a) (goes_out (adding 0 9 ∷ []))) → AsksFor (adding 0 9).message a
+add-asks a h =
+    let c = its-sent part.HasCall (goes_out (adding 0 9 ∷ [])) (watch_for a) temp_there refl refl h.0 1 (adding 0 9) refl in
+    elim (two-at (Opened 0 temp_name) (Called (On 0 (Subscribe 0)) a) c.1.0 (Called (On 0 (Subscribe 0)) c.0) c.1.1) [
+      | inl first ↦ absurd (let e : Called (On 0 (Subscribe 0)) c.0 ≡ Opened 0 temp_name = first.1 in cc)
+      | inr second ↦ subst (λ (b : Wish). AsksFor (adding 0 9).message b) (ap wish-of second.1) c.3
+    ]
+
+pub add-of-other-type : SendsWrong part.HasCall (called_in (watch_for (ToWatch 6 1 1)) (goes_out (adding 0 9 ∷ [])))
+add-of-other-type = (add-for-rest (ToWatch 6 1 1), λ h. (let e : ◌≡◌ {A = ℕ} 5 6 = (add-asks (ToWatch 6 1 1) h).0 in omega (arith, e)))
+
+pub add-of-other-count : SendsWrong part.HasCall (called_in (watch_for (ToWatch 5 2 1)) (goes_out (adding 0 9 ∷ [])))
+add-of-other-count = (add-for-rest (ToWatch 5 2 1), λ h. (let e : ◌≡◌ {A = ℕ} 1 2 = (add-asks (ToWatch 5 2 1) h).1 in omega (arith, e)))
+
+pub add-by-other-mask : SendsWrong part.HasCall (called_in (watch_for (ToWatch 5 1 4)) (goes_out (adding 0 9 ∷ [])))
+add-by-other-mask = (add-for-rest (ToWatch 5 1 4), λ h. (let e : ◌≡◌ {A = ℕ} 1 4 = sym (mask-is 0 9) ∙ (add-asks (ToWatch 5 1 4) h).2 in omega (arith, e)))
+
 -- ---- ids on two circuits
 
 abbrev other-circuit : ℕ → Bool → Circuit
@@ -681,7 +754,7 @@ two-send p cid stays one two called held = (
 -- every part but that of ids on two circuits
 two-rest : (p : Sending) (cid : ℕ) (stays : Bool) → (p ≡ part.IdsApart → ⊥) → MaySend p (two_circuits cid stays)
 two-rest part.IdsApart cid stays ne = absurd (ne refl)
-two-rest part.HasAdd cid stays ne = two-send part.HasAdd cid stays (λ n. tt) (λ n. tt) (λ channel number h. absurd (each-at (λ (i : ℕ) (l : Line). l ≡ Called (On channel (Subscribe number)) None → ⊥) (calls (creating ∷ asked_with cid ∷ [])) ((λ e. cc), ((λ e. cc), tt)) h.0 _ h.1 refl)) tt
+two-rest part.HasAdd cid stays ne = two-send part.HasAdd cid stays (λ n. tt) (λ n. tt) (λ channel number h. absurd (each-at (λ (i : ℕ) (l : Line). l ≡ Called (On channel (Subscribe number)) h.0 → ⊥) (calls (creating ∷ asked_with cid ∷ [])) ((λ e. cc), ((λ e. cc), tt)) h.1.0 _ h.1.1 refl)) tt
 two-rest p cid stays ne = two-send p cid stays (λ n. quiet-sent p (alone creating) (calls (creating ∷ asked_with cid ∷ [])) temp_there refl) (λ n. quiet-sent p (other-circuit cid stays) (calls (creating ∷ asked_with cid ∷ [])) temp_there refl) tt tt
 
 -- the places of two circuits, and what is sent there
@@ -737,6 +810,7 @@ cids-shared = (
 -- ---- subscriptions
 
 adds-legal-each : (p : Sending) → MaySend p (sent_in (goes_out (adding 0 9 ∷ adding 1 10 ∷ [])))
+unfolding number16
 adds-legal-each part.OnChannel = sends part.OnChannel (goes_out (adding 0 9 ∷ adding 1 10 ∷ [])) (calls (goes_out (adding 0 9 ∷ adding 1 10 ∷ [])).up) temp_there refl refl (all-on-sid (goes_out (adding 0 9 ∷ adding 1 10 ∷ [])) (calls (goes_out (adding 0 9 ∷ adding 1 10 ∷ [])).up) temp_there ((adding 0 9).message) ((adding 1 10).message ∷ []) 1 refl refl refl refl refl refl refl) tt
 adds-legal-each p = quiet-sends p (goes_out (adding 0 9 ∷ adding 1 10 ∷ [])) (calls (goes_out (adding 0 9 ∷ adding 1 10 ∷ [])).up) temp_there refl refl refl
 
@@ -749,9 +823,10 @@ adds-uncalled-rest part.OnChannel ne = sends part.OnChannel (goes_out (adding 0 
 adds-uncalled-rest p ne = quiet-sends p (goes_out (adding 0 9 ∷ adding 1 10 ∷ [])) opened temp_there refl refl refl
 
 pub adds-uncalled : SendsWrong part.HasCall (uncalled_in (goes_out (adding 0 9 ∷ adding 1 10 ∷ [])))
-adds-uncalled = (adds-uncalled-rest, λ h. (let c = its-sent part.HasCall (goes_out (adding 0 9 ∷ adding 1 10 ∷ [])) opened temp_there refl refl h.0 1 (adding 0 9) refl in let e : Called (On 0 (Subscribe 0)) None ≡ Opened 0 temp_name = (one-at (Opened 0 temp_name) c.0 _ c.1).1 in cc))
+adds-uncalled = (adds-uncalled-rest, λ h. (let c = its-sent part.HasCall (goes_out (adding 0 9 ∷ adding 1 10 ∷ [])) opened temp_there refl refl h.0 1 (adding 0 9) refl in let e : Called (On 0 (Subscribe 0)) c.0 ≡ Opened 0 temp_name = (one-at (Opened 0 temp_name) c.1.0 _ c.1.1).1 in cc))
 
 added-twice-rest : (p : Sending) → (p ≡ part.Apart → ⊥) → MaySend p (sent_in (goes_out (adding 0 9 ∷ adding 0 10 ∷ [])))
+unfolding number16
 added-twice-rest part.Apart ne = absurd (ne refl)
 added-twice-rest part.OnChannel ne = sends part.OnChannel (goes_out (adding 0 9 ∷ adding 0 10 ∷ [])) (calls (goes_out (adding 0 9 ∷ adding 0 10 ∷ [])).up) temp_there refl refl (all-on-sid (goes_out (adding 0 9 ∷ adding 0 10 ∷ [])) (calls (goes_out (adding 0 9 ∷ adding 0 10 ∷ [])).up) temp_there ((adding 0 9).message) ((adding 0 10).message ∷ []) 1 refl refl refl refl refl refl refl) tt
 added-twice-rest p ne = quiet-sends p (goes_out (adding 0 9 ∷ adding 0 10 ∷ [])) (calls (goes_out (adding 0 9 ∷ adding 0 10 ∷ [])).up) temp_there refl refl refl
@@ -764,15 +839,16 @@ intent-of (Called i e) = i
 intent-of l = On 0 Create
 
 -- the subscription that was called
-called-is : (channel number i : ℕ) → At subscribe_called i (Called (On channel (Subscribe number)) None) → On 0 (Subscribe 1) ≡ On channel (Subscribe number)
-called-is channel number i at = each-at (λ (k : ℕ) (l : Line). l ≡ Called (On channel (Subscribe number)) None → On 0 (Subscribe 1) ≡ On channel (Subscribe number)) subscribe_called ((λ e. absurd cc), ((λ e. ap intent-of e), tt)) i _ at refl
+called-is : (channel number i : ℕ) (a : Wish) → At subscribe_called i (Called (On channel (Subscribe number)) a) → On 0 (Subscribe 1) ≡ On channel (Subscribe number)
+called-is channel number i a at = each-at (λ (k : ℕ) (l : Line). l ≡ Called (On channel (Subscribe number)) a → On 0 (Subscribe 1) ≡ On channel (Subscribe number)) subscribe_called ((λ e. absurd cc), ((λ e. ap intent-of e), tt)) i _ at refl
 
-cancelled-is : (channel number i : ℕ) → At cancel_called i (Called (On channel (Subscribe number)) None) → On 0 (Subscribe 1) ≡ On channel (Subscribe number)
-cancelled-is channel number i at = each-at (λ (k : ℕ) (l : Line). l ≡ Called (On channel (Subscribe number)) None → On 0 (Subscribe 1) ≡ On channel (Subscribe number)) cancel_called ((λ e. absurd cc), ((λ e. ap intent-of e), ((λ e. absurd (let f : On 0 (Cancel 1) ≡ On channel (Subscribe number) = ap intent-of e in cc)), tt))) i _ at refl
+cancelled-is : (channel number i : ℕ) (a : Wish) → At cancel_called i (Called (On channel (Subscribe number)) a) → On 0 (Subscribe 1) ≡ On channel (Subscribe number)
+cancelled-is channel number i a at = each-at (λ (k : ℕ) (l : Line). l ≡ Called (On channel (Subscribe number)) a → On 0 (Subscribe 1) ≡ On channel (Subscribe number)) cancel_called ((λ e. absurd cc), ((λ e. ap intent-of e), ((λ e. absurd (let f : On 0 (Cancel 1) ≡ On channel (Subscribe number) = ap intent-of e in cc)), tt))) i _ at refl
 
 called-legal-each : (p : Sending) → MaySend p (world (called_at 1 (adding 1 9 ∷ []) ∷ []) subscribe_called temp_there)
+unfolding number16
 called-legal-each part.OnChannel = sends part.OnChannel (called_at 1 (adding 1 9 ∷ [])) subscribe_called temp_there refl refl (all-on-sid (called_at 1 (adding 1 9 ∷ [])) subscribe_called temp_there ((adding 1 9).message) [] 1 refl refl refl refl refl refl refl) tt
-called-legal-each part.HasAdd = sends part.HasAdd (called_at 1 (adding 1 9 ∷ [])) subscribe_called temp_there refl refl tt (λ channel number h. (0, 1, (called_at 1 (adding 1 9 ∷ []), refl, refl, (adding 1 9, refl, called-is channel number h.0 h.1))))
+called-legal-each part.HasAdd = sends part.HasAdd (called_at 1 (adding 1 9 ∷ [])) subscribe_called temp_there refl refl tt (λ channel number h. (0, 1, (called_at 1 (adding 1 9 ∷ []), refl, refl, (adding 1 9, refl, called-is channel number h.1.0 h.0 h.1.1))))
 called-legal-each p = quiet-sends p (called_at 1 (adding 1 9 ∷ [])) subscribe_called temp_there refl refl refl
 
 pub called-legal : Legal (world (called_at 1 (adding 1 9 ∷ []) ∷ []) subscribe_called temp_there)
@@ -783,22 +859,23 @@ called-unsent-rest part.HasAdd ne = absurd (ne refl)
 called-unsent-rest p ne = quiet-sends p (called_at 1 []) subscribe_called temp_there refl refl refl
 
 pub called-unsent : SendsWrong part.HasAdd (world (called_at 1 [] ∷ []) subscribe_called temp_there)
-called-unsent = (called-unsent-rest, λ h. (let a = h.1 0 subscribe_called refl 0 1 (1, refl) in let c = one-at (called_at 1 []) a.0 a.2.0 a.2.1 in let s = one-at creating a.1 a.2.3.0 (subst (λ (d : Circuit). At d.up a.1 a.2.3.0) c.1 a.2.3.1) in (let e : On 0 Create ≡ On 0 (Subscribe 1) = sym (ap (λ (z : Sent). z.intent) s.1) ∙ a.2.3.2 in cc)))
+called-unsent = (called-unsent-rest, λ h. (let a = h.1 0 subscribe_called refl 0 1 (ToWatch 5 1 1, (1, refl)) in let c = one-at (called_at 1 []) a.0 a.2.0 a.2.1 in let s = one-at creating a.1 a.2.3.0 (subst (λ (d : Circuit). At d.up a.1 a.2.3.0) c.1 a.2.3.1) in (let e : On 0 Create ≡ On 0 (Subscribe 1) = sym (ap (λ (z : Sent). z.intent) s.1) ∙ a.2.3.2 in cc)))
 
 -- The subscription was called, and neither ended nor told of, in the first two lines.
 held-yet : (channel number : ℕ) → IsHeld subscribe_called (On channel (Subscribe number)) × ((o : Outcome) → In subscribe_called (Noticed (On channel (Subscribe number)) o) → ⊥)
 held-yet channel number = (
   (
-    (λ g. each-at (λ (k : ℕ) (l : Line). l ≡ Called (On channel Clear) None → ⊥) subscribe_called ((λ e. cc), ((λ e. (let f : On 0 (Subscribe 1) ≡ On channel Clear = ap intent-of e in cc)), tt)) g.0 _ g.1 refl),
-    (λ g. each-at (λ (k : ℕ) (l : Line). l ≡ Called (On channel (Cancel number)) None → ⊥) subscribe_called ((λ e. cc), ((λ e. (let f : On 0 (Subscribe 1) ≡ On channel (Cancel number) = ap intent-of e in cc)), tt)) g.0 _ g.1 refl),
+    (λ g. each-at (λ (k : ℕ) (l : Line). l ≡ Called (On channel Clear) Nothing → ⊥) subscribe_called ((λ e. cc), ((λ e. (let f : On 0 (Subscribe 1) ≡ On channel Clear = ap intent-of e in cc)), tt)) g.0 _ g.1 refl),
+    (λ g. each-at (λ (k : ℕ) (l : Line). l ≡ Called (On channel (Cancel number)) Nothing → ⊥) subscribe_called ((λ e. cc), ((λ e. (let f : On 0 (Subscribe 1) ≡ On channel (Cancel number) = ap intent-of e in cc)), tt)) g.0 _ g.1 refl),
   ),
   λ o g. each-at (λ (k : ℕ) (l : Line). l ≡ Noticed (On channel (Subscribe number)) o → ⊥) subscribe_called ((λ e. cc), ((λ e. cc), tt)) g.0 _ g.1 refl,
 )
 
 cancelled-later-legal-each : (p : Sending) → MaySend p (world (called_at 2 (adding 1 9 ∷ []) ∷ []) cancel_called temp_there)
+unfolding number16
 cancelled-later-legal-each part.OnChannel = sends part.OnChannel (called_at 2 (adding 1 9 ∷ [])) cancel_called temp_there refl refl (all-on-sid (called_at 2 (adding 1 9 ∷ [])) cancel_called temp_there ((adding 1 9).message) [] 1 refl refl refl refl refl refl refl) tt
-cancelled-later-legal-each part.HasAdd = sends part.HasAdd (called_at 2 (adding 1 9 ∷ [])) cancel_called temp_there refl refl tt (λ channel number h. (0, 1, ((called_at 2 (adding 1 9 ∷ [])), refl, refl, (adding 1 9, refl, cancelled-is channel number h.0 h.1))))
-cancelled-later-legal-each part.Anew = sends part.Anew (called_at 2 (adding 1 9 ∷ [])) cancel_called temp_there refl refl (λ channel k number h live standing. (let g : step 1 2 2 ≡ h = sym (one-at (step 1 2 2) live.0 h live.8).1 in let j = (one-at created_told live.0 live.2 live.4) in let k0 : 0 ≡ k = sym (ap (λ (t : Told). t.place) j.1) ∙ live.5 in subst (λ (n : ℕ). (l : ℕ) × (h.sent ≤ l) × Meant (called_at 2 (adding 1 9 ∷ [])) l (On channel (Subscribe number)) × ((p : ℕ) → n < p → p < l → Meant (called_at 2 (adding 1 9 ∷ [])) p (On channel Create) → ⊥)) k0 (1, subst (λ (z : Step). z.sent ≤ 1) g (omega arith), (adding 1 9, refl, called-is channel number standing.0.0 (subst (λ (z : Step). At (take z.logged cancel_called) standing.0.0 (Called (On channel (Subscribe number)) None)) (sym g) standing.0.1)), λ p a b. absurd (omega (arith, a, b))))) tt
+cancelled-later-legal-each part.HasAdd = sends part.HasAdd (called_at 2 (adding 1 9 ∷ [])) cancel_called temp_there refl refl tt (λ channel number h. (0, 1, ((called_at 2 (adding 1 9 ∷ [])), refl, refl, (adding 1 9, refl, cancelled-is channel number h.1.0 h.0 h.1.1))))
+cancelled-later-legal-each part.Anew = sends part.Anew (called_at 2 (adding 1 9 ∷ [])) cancel_called temp_there refl refl (λ channel k number h live standing. (let g : step 1 2 2 ≡ h = sym (one-at (step 1 2 2) live.0 h live.8).1 in let j = (one-at created_told live.0 live.2 live.4) in let k0 : 0 ≡ k = sym (ap (λ (t : Told). t.place) j.1) ∙ live.5 in subst (λ (n : ℕ). (l : ℕ) × (h.sent ≤ l) × Meant (called_at 2 (adding 1 9 ∷ [])) l (On channel (Subscribe number)) × ((p : ℕ) → n < p → p < l → Meant (called_at 2 (adding 1 9 ∷ [])) p (On channel Create) → ⊥)) k0 (1, subst (λ (z : Step). z.sent ≤ 1) g (omega arith), (adding 1 9, refl, called-is channel number standing.0.1.0 standing.0.0 (subst (λ (z : Step). At (take z.logged cancel_called) standing.0.1.0 (Called (On channel (Subscribe number)) standing.0.0)) (sym g) standing.0.1.1)), λ p a b. absurd (omega (arith, a, b))))) tt
 cancelled-later-legal-each part.Ended = sends part.Ended (called_at 2 (adding 1 9 ∷ [])) cancel_called temp_there refl refl (λ channel k l number h live lt meant. (let g : step 1 2 2 ≡ h = sym (one-at (step 1 2 2) live.0 h live.8).1 in subst (λ (z : Step). IsHeld (take z.logged cancel_called) (On channel (Subscribe number)) × ((o : Outcome) → In (take z.logged cancel_called) (Noticed (On channel (Subscribe number)) o) → ⊥)) g (held-yet channel number))) tt
 cancelled-later-legal-each p = quiet-sends p (called_at 2 (adding 1 9 ∷ [])) cancel_called temp_there refl refl refl
 
@@ -812,13 +889,14 @@ cancel-of i = i
 not-standing : (channel number : ℕ) (h : Step) → step 1 3 3 ≡ h → IsStanding (take h.logged cancel_called) (On channel (Subscribe number)) → ⊥
 not-standing channel number h g standing =
     let s : IsStanding cancel_called (On channel (Subscribe number)) = subst (λ (z : Step). IsStanding (take z.logged cancel_called) (On channel (Subscribe number))) (sym g) standing in
-    let i : On 0 (Cancel 1) ≡ On channel (Cancel number) = ap cancel-of (cancelled-is channel number s.0.0 s.0.1) in
-    s.1.1 (2, subst (λ (d : Intent). At (Opened 0 temp_name ∷ Called (On 0 (Subscribe 1)) None ∷ Called (On 0 (Cancel 1)) None ∷ []) 2 (Called d None)) i refl)
+    let i : On 0 (Cancel 1) ≡ On channel (Cancel number) = ap cancel-of (cancelled-is channel number s.0.1.0 s.0.0 s.0.1.1) in
+    s.1.1 (2, subst (λ (d : Intent). At (Opened 0 temp_name ∷ Called (On 0 (Subscribe 1)) (ToWatch 5 1 1) ∷ Called (On 0 (Cancel 1)) Nothing ∷ []) 2 (Called d Nothing)) i refl)
 
 added-cancelled-rest : (p : Sending) → (p ≡ part.Ended → ⊥) → MaySend p (world (called_at 3 (adding 1 9 ∷ []) ∷ []) cancel_called temp_there)
+unfolding number16
 added-cancelled-rest part.Ended ne = absurd (ne refl)
 added-cancelled-rest part.OnChannel ne = sends part.OnChannel (called_at 3 (adding 1 9 ∷ [])) cancel_called temp_there refl refl (all-on-sid (called_at 3 (adding 1 9 ∷ [])) cancel_called temp_there ((adding 1 9).message) [] 1 refl refl refl refl refl refl refl) tt
-added-cancelled-rest part.HasAdd ne = sends part.HasAdd (called_at 3 (adding 1 9 ∷ [])) cancel_called temp_there refl refl tt (λ channel number h. (0, 1, ((called_at 3 (adding 1 9 ∷ [])), refl, refl, (adding 1 9, refl, cancelled-is channel number h.0 h.1))))
+added-cancelled-rest part.HasAdd ne = sends part.HasAdd (called_at 3 (adding 1 9 ∷ [])) cancel_called temp_there refl refl tt (λ channel number h. (0, 1, ((called_at 3 (adding 1 9 ∷ [])), refl, refl, (adding 1 9, refl, cancelled-is channel number h.1.0 h.0 h.1.1))))
 added-cancelled-rest part.Anew ne = sends part.Anew (called_at 3 (adding 1 9 ∷ [])) cancel_called temp_there refl refl (λ channel k number h live standing. absurd (not-standing channel number h (sym (one-at (step 1 3 3) live.0 h live.8).1) standing)) tt
 added-cancelled-rest p ne = quiet-sends p (called_at 3 (adding 1 9 ∷ [])) cancel_called temp_there refl refl refl
 
@@ -868,22 +946,24 @@ between k l channel number lt a b =
     ]
 
 again-legal-each : (p : Sending) → MaySend p (world (live_again (added_again ∷ []) ∷ []) subscribe_called temp_there)
+unfolding number16
 again-legal-each part.OnChannel = sends part.OnChannel (live_again (added_again ∷ [])) subscribe_called temp_there refl refl (λ k m at o. each-at (λ (i : ℕ) (z : Fields). IsOnChannel z → SentOn (live_again (added_again ∷ [])) i z) (client_conduct (live_again (added_again ∷ []))).sent ((λ f. absurd (let e : false ≡ true = on-channel-so creating.message f in cc)), ((λ f. on-sid (client_conduct (live_again (added_again ∷ []))) 1 refl refl refl (omega arith) refl refl 1 (adding 1 9).message refl (omega arith) refl), ((λ f. absurd (let e : false ≡ true = on-channel-so asked_again.message f in cc)), ((λ f. (2, 1, 2, (asked_again.message, created_again.message, refl, (refl, refl), (3, refl, refl, omega arith, omega arith), (refl, refl), refl, λ l r after before here clears same. none (is 12) (client_conduct (live_again (added_again ∷ []))).sent refl l r here (is-so 12 r clears.0)), inr ((λ e. omega (arith, e)), (λ l r after reads d. none (is 27) (client_conduct (live_again (added_again ∷ []))).came refl l r reads.1 (is-so 27 r d.0))))), tt)))) k m at o) tt
-again-legal-each part.HasAdd = sends part.HasAdd (live_again (added_again ∷ [])) subscribe_called temp_there refl refl tt (λ channel number h. (0, 1, ((live_again (added_again ∷ [])), refl, refl, (adding 1 9, refl, called-is channel number h.0 h.1))))
+again-legal-each part.HasAdd = sends part.HasAdd (live_again (added_again ∷ [])) subscribe_called temp_there refl refl tt (λ channel number h. (0, 1, ((live_again (added_again ∷ [])), refl, refl, (adding 1 9, refl, called-is channel number h.1.0 h.0 h.1.1))))
 again-legal-each part.Ended = sends part.Ended (live_again (added_again ∷ [])) subscribe_called temp_there refl refl (λ channel k l number h live lt meant. each-at (λ (i : ℕ) (z : Step). IsHeld (take z.logged subscribe_called) (On channel (Subscribe number)) × ((o : Outcome) → In (take z.logged subscribe_called) (Noticed (On channel (Subscribe number)) o) → ⊥)) (step 1 2 2 ∷ step 3 2 2 ∷ []) (held-yet channel number, (held-yet channel number, tt)) live.0 h live.8) tt
 again-legal-each part.Apart = sends part.Apart (live_again (added_again ∷ [])) subscribe_called temp_there refl refl between tt
-again-legal-each part.Anew = sends part.Anew (live_again (added_again ∷ [])) subscribe_called temp_there refl refl (λ channel k number h live standing. added-after k channel number h live (each-at (λ (j : ℕ) (g : Step). At (take g.logged subscribe_called) standing.0.0 (Called (On channel (Subscribe number)) None) → On 0 (Subscribe 1) ≡ On channel (Subscribe number)) (step 1 2 2 ∷ step 3 2 2 ∷ []) ((λ e. called-is channel number standing.0.0 e), ((λ e. called-is channel number standing.0.0 e), tt)) live.0 h live.8 standing.0.1)) tt
+again-legal-each part.Anew = sends part.Anew (live_again (added_again ∷ [])) subscribe_called temp_there refl refl (λ channel k number h live standing. added-after k channel number h live (each-at (λ (j : ℕ) (g : Step). At (take g.logged subscribe_called) standing.0.1.0 (Called (On channel (Subscribe number)) standing.0.0) → On 0 (Subscribe 1) ≡ On channel (Subscribe number)) (step 1 2 2 ∷ step 3 2 2 ∷ []) ((λ e. called-is channel number standing.0.1.0 standing.0.0 e), ((λ e. called-is channel number standing.0.1.0 standing.0.0 e), tt)) live.0 h live.8 standing.0.1.1)) tt
 again-legal-each p = quiet-sends p (live_again (added_again ∷ [])) subscribe_called temp_there refl refl refl
 
 pub again-legal : Legal (world (live_again (added_again ∷ []) ∷ []) subscribe_called temp_there)
 again-legal = all-legal _ again-legal-each
 
 not-added-again-rest : (p : Sending) → (p ≡ part.Anew → ⊥) → MaySend p (world (live_again [] ∷ []) subscribe_called temp_there)
+unfolding number16
 not-added-again-rest part.Anew ne = absurd (ne refl)
 not-added-again-rest part.OnChannel ne = sends part.OnChannel (live_again []) subscribe_called temp_there refl refl (λ k m at o. each-at (λ (i : ℕ) (z : Fields). IsOnChannel z → SentOn (live_again []) i z) (client_conduct (live_again [])).sent ((λ f. absurd (let e : false ≡ true = on-channel-so creating.message f in cc)), ((λ f. on-sid (client_conduct (live_again [])) 1 refl refl refl (omega arith) refl refl 1 (adding 1 9).message refl (omega arith) refl), ((λ f. absurd (let e : false ≡ true = on-channel-so asked_again.message f in cc)), tt))) k m at o) tt
-not-added-again-rest part.HasAdd ne = sends part.HasAdd (live_again []) subscribe_called temp_there refl refl tt (λ channel number h. (0, 1, ((live_again []), refl, refl, (adding 1 9, refl, called-is channel number h.0 h.1))))
+not-added-again-rest part.HasAdd ne = sends part.HasAdd (live_again []) subscribe_called temp_there refl refl tt (λ channel number h. (0, 1, ((live_again []), refl, refl, (adding 1 9, refl, called-is channel number h.1.0 h.0 h.1.1))))
 not-added-again-rest part.Ended ne = sends part.Ended (live_again []) subscribe_called temp_there refl refl (λ channel k l number h live lt meant. each-at (λ (i : ℕ) (z : Step). IsHeld (take z.logged subscribe_called) (On channel (Subscribe number)) × ((o : Outcome) → In (take z.logged subscribe_called) (Noticed (On channel (Subscribe number)) o) → ⊥)) (step 1 2 2 ∷ step 3 2 2 ∷ []) (held-yet channel number, (held-yet channel number, tt)) live.0 h live.8) tt
 not-added-again-rest p ne = quiet-sends p (live_again []) subscribe_called temp_there refl refl refl
 
 pub not-added-again : SendsWrong part.Anew (world (live_again [] ∷ []) subscribe_called temp_there)
-not-added-again = (not-added-again-rest, λ h. (let a = its-sent part.Anew (live_again []) subscribe_called temp_there refl refl h.0 0 2 1 (step 3 2 2) (1, 6, created_again, (asked_again, refl, refl), refl, refl, refl, (refl, refl), refl) ((1, refl), (held-yet 0 1).0, (held-yet 0 1).1) in let m = a.2 in let w = At-within (live_again []).up a.0 m.0 m.1 in let late = a.1 in omega (arith, w, late)))
+not-added-again = (not-added-again-rest, λ h. (let a = its-sent part.Anew (live_again []) subscribe_called temp_there refl refl h.0 0 2 1 (step 3 2 2) (1, 6, created_again, (asked_again, refl, refl), refl, refl, refl, (refl, refl), refl) ((ToWatch 5 1 1, (1, refl)), (held-yet 0 1).0, (held-yet 0 1).1) in let m = a.2 in let w = At-within (live_again []).up a.0 m.0 m.1 in let late = a.1 in omega (arith, w, late)))

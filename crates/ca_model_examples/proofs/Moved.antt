@@ -1,17 +1,16 @@
 -- A channel that moves to another server, on a circuit that was there before: the world is safe and legal.
 use Rattle.std.proofs.Common.{◌≡◌, ℕ, ◌⊎◌, inl, inr, List, [], ◌∷◌, refl, sym, ap, subst, ◌∙◌, arith}
-use Rattle.std.specs.Prelude.{take, true, false, Bool, Option}
+use Rattle.std.specs.Prelude.{take, true, false, Bool}
 use Rattle.ca_text.specs.Place.{At}
 use Rattle.ca_text.proofs.Places.{some_is}
 use Rattle.ca_dbr.specs.declared.value.Outcome.{Outcome}
 use Rattle.ca_dbr.specs.declared.value.Outcome.TheVariants as outcome
 use Rattle.ca_dbr.specs.declared.data_type.BaseType.TheVariants as base
 use Rattle.ca_dbr.specs.declared.data_type.Form.TheVariants as form
-use Rattle.ca_dbr.specs.Elements.{Elements}
 use Rattle.ca_dbr.specs.Elements as E
 use Rattle.ca_model.specs.Speech.{Stored}
 use Rattle.ca_wire.specs.Messages.{mask_in}
-use Rattle.ca_model.specs.History.{Circuit, Intent, On, Create, Request, Subscribe, Put, Line, Entry, Sent, Told, Step, Added, Finished, Withdrawn, Reply, Update, Cause, Called, Noticed, Updated}
+use Rattle.ca_model.specs.History.{Circuit, Intent, On, Create, Request, Subscribe, Put, Line, Entry, Sent, Told, Step, Added, Finished, Withdrawn, Reply, Update, Cause, Called, Noticed, Updated, Wish}
 use Rattle.ca_model.specs.Channels.{IsApplied, IsLost, IsRequest, IsUse, IsWaiting, Joins, OfCircuits, OfClients, Stands, updates}
 use Rattle.ca_model.specs.Headline.{ActsOnRecord, AnswersOwn, CompletesOnce, Follows, FollowsRecord, LosesLive, NotTwice, Reads, Sees}
 use Rattle.ca_model.specs.Known.{IsSafe}
@@ -50,7 +49,7 @@ each-life o p P h life x at =
 pub moved-legal : (o p : Outcome) → Legal (moved_world o p)
 moved-legal o p = record {
   circuits = each-circuit o p LegalCircuit (moved-circuit 0 5 6 5 true o p) (moved-circuit 1 1 3 7 false o p);
-  subscriptions = each-life o p (IsSent (moved_world o p)) (λ channel number h. (0, 1, (found_again, refl, refl, (adding 0 9, refl, (call-at o p h.0 channel number h.1).1))));
+  subscriptions = each-life o p (IsSent (moved_world o p)) (λ channel number h. (0, 1, (found_again, refl, refl, (adding 0 9, refl, (call-at o p h.1.0 channel number h.0 h.1.1).1))));
   ids = λ n m l k c d s r a b lt at_c at_d same open_c open_d at_s at_r gives_s gives_r index. elim (two-at found_again ended m d at_d) [
     | inl first ↦ (let zero_is = first.0 in absurd (omega (arith, lt, zero_is)))
     | inr second ↦ absurd (clash (sym (ap (λ (e : Circuit). e.client_open) second.1) ∙ open_d) refl)
@@ -163,7 +162,7 @@ lost-line o p i channel at =
       ),
     ) i _ at refl
 
-called-at : (o p : Outcome) (i : ℕ) (intent : Intent) (e : Option Elements) → At (moved_lines o p) i (Called intent e) → (i ≡ 2) × (On 0 (Subscribe 0) ≡ intent)
+called-at : (o p : Outcome) (i : ℕ) (intent : Intent) (e : Wish) → At (moved_lines o p) i (Called intent e) → (i ≡ 2) × (On 0 (Subscribe 0) ≡ intent)
 called-at o p i intent e at =
     each-at (λ (k : ℕ) (l : Line). l ≡ Called intent e → (k ≡ 2) × (On 0 (Subscribe 0) ≡ intent)) (moved_lines o p) (
       (λ f. absurd cc),

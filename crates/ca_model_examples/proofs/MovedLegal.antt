@@ -1,16 +1,17 @@
 -- What is sent on each circuit of a channel that moves is legal.
 use Rattle.std.proofs.Common.{◌≡◌, ℕ, ◌<◌, ◌≤◌, ◌⊎◌, inl, inr, [], refl, sym, ap, subst, ◌+◌, arith}
-use Rattle.std.specs.Prelude.{take, None, Bool}
+use Rattle.std.specs.Prelude.{take, Bool}
 use Rattle.ca_text.specs.Place.{At}
 use Rattle.ca_text.proofs.Places.{some_is}
 use Rattle.ca_text.specs.declared.command.Command.TheVariants as command
 use Rattle.ca_dbr.specs.declared.value.Outcome.{Outcome}
 use Rattle.ca_wire.specs.Fields.{Fields}
+use Rattle.ca_wire.specs.Header.{number16}
 use Rattle.ca_model.specs.Speech.{Cid, Creates, Gives, Id, In, Ioid, Is, SubId}
 use Rattle.ca_model.specs.Sends.{Conduct, HasChannel, IsConnected, IsFree, IsOnChannel, IsOpenAt, IsRefused, LegalClient, LegalServer, ReadsBetween, SameIndex}
-use Rattle.ca_model.specs.History.{Noticed, Circuit, On, Create, Line, Called, Clear, Cancel, Subscribe, Sent, Step}
+use Rattle.ca_model.specs.History.{Noticed, Circuit, On, Create, Line, Called, Clear, Cancel, Subscribe, Sent, Step, Nothing, Wish}
 use Rattle.ca_model.specs.Channels.{IsHeld, Meant}
-use Rattle.ca_model.specs.Legal.{BecomesLive, LegalCircuit, client_conduct, server_conduct}
+use Rattle.ca_model.specs.Legal.{BecomesLive, IsCalled, LegalCircuit, client_conduct, server_conduct}
 use Rattle.ca_model_examples.specs.Worlds.{adding, created_told, creating, step}
 use Rattle.ca_model_examples.specs.Moved.{moved, moved_entries, moved_lines}
 use Rattle.ca_model_examples.specs.Parts as part
@@ -21,24 +22,24 @@ use Rattle.ca_model_examples.proofs.MovedActs.{no-removal, reply-at}
 
 -- ---- the client's log
 
-pub call-at : (o p : Outcome) (i channel number : ℕ) → At (moved_lines o p) i (Called (On channel (Subscribe number)) None) → (i ≡ 2) × (On 0 (Subscribe 0) ≡ On channel (Subscribe number))
-call-at o p i channel number at =
-    each-at (λ (k : ℕ) (l : Line). l ≡ Called (On channel (Subscribe number)) None → (k ≡ 2) × (On 0 (Subscribe 0) ≡ On channel (Subscribe number))) (moved_lines o p) (
+pub call-at : (o p : Outcome) (i channel number : ℕ) (a : Wish) → At (moved_lines o p) i (Called (On channel (Subscribe number)) a) → (i ≡ 2) × (On 0 (Subscribe 0) ≡ On channel (Subscribe number))
+call-at o p i channel number a at =
+    each-at (λ (k : ℕ) (l : Line). l ≡ Called (On channel (Subscribe number)) a → (k ≡ 2) × (On 0 (Subscribe 0) ≡ On channel (Subscribe number))) (moved_lines o p) (
       (λ e. absurd cc),
       ((λ e. absurd cc), ((λ e. (refl, ap intent-of e)), ((λ e. absurd cc), ((λ e. absurd cc), ((λ e. absurd cc), ((λ e. absurd cc), tt)))))),
     ) i _ at refl
 
 -- no line clears a channel or cancels a subscription
-pub no-clear-line : (o p : Outcome) (n channel : ℕ) → In (take n (moved_lines o p)) (Called (On channel Clear) None) → ⊥
+pub no-clear-line : (o p : Outcome) (n channel : ℕ) → In (take n (moved_lines o p)) (Called (On channel Clear) Nothing) → ⊥
 no-clear-line o p n channel h =
-    each-at (λ (k : ℕ) (l : Line). l ≡ Called (On channel Clear) None → ⊥) (moved_lines o p) (
+    each-at (λ (k : ℕ) (l : Line). l ≡ Called (On channel Clear) Nothing → ⊥) (moved_lines o p) (
       (λ e. cc),
       ((λ e. cc), ((λ e. (let f = ap intent-of e in cc)), ((λ e. cc), ((λ e. cc), ((λ e. cc), ((λ e. cc), tt)))))),
     ) h.0 _ (at-take n (moved_lines o p) h.0 _ h.1) refl
 
-no-cancel-line : (o p : Outcome) (n channel number : ℕ) → In (take n (moved_lines o p)) (Called (On channel (Cancel number)) None) → ⊥
+no-cancel-line : (o p : Outcome) (n channel number : ℕ) → In (take n (moved_lines o p)) (Called (On channel (Cancel number)) Nothing) → ⊥
 no-cancel-line o p n channel number h =
-    each-at (λ (k : ℕ) (l : Line). l ≡ Called (On channel (Cancel number)) None → ⊥) (moved_lines o p) (
+    each-at (λ (k : ℕ) (l : Line). l ≡ Called (On channel (Cancel number)) Nothing → ⊥) (moved_lines o p) (
       (λ e. cc),
       ((λ e. cc), ((λ e. (let f = ap intent-of e in cc)), ((λ e. cc), ((λ e. cc), ((λ e. cc), ((λ e. cc), tt)))))),
     ) h.0 _ (at-take n (moved_lines o p) h.0 _ h.1) refl
@@ -203,16 +204,17 @@ module _ (server live read value : ℕ) (stays : Bool) where
       each-at (λ (i : ℕ) (s : Sent). s.intent ≡ On channel (Subscribe number) → i ≡ 1) c.up ((λ e. absurd cc), ((λ e. refl), tt)) k m.0 m.1 m.2
 
   -- the EVENT_ADD goes out after the channel is live
-  sent-after : (o p : Outcome) (channel k number : ℕ) (h : Step) → BecomesLive c channel k h → In (take h.logged (moved_lines o p)) (Called (On channel (Subscribe number)) None)
+  sent-after : (o p : Outcome) (channel k number : ℕ) (h : Step) → BecomesLive c channel k h → IsCalled (take h.logged (moved_lines o p)) (On channel (Subscribe number))
       → (l : ℕ) × (h.sent ≤ l) × Meant c l (On channel (Subscribe number)) × ((q : ℕ) → k < q → q < l → Meant c q (On channel Create) → ⊥)
   sent-after o p channel k number h lives called =
       let is = reply-at server live read value stays lives.0 k lives.1 lives.2 lives.4 lives.5 lives.7 in
       let first : h ≡ step 1 live (live + 1) = some_is h (step 1 live (live + 1)) (sym (subst (λ (i : ℕ). At c.heard i h) is.0 lives.8)) in
       let one : h.sent ≡ 1 = ap (λ (g : Step). g.sent) first in
-      let call = call-at o p called.0 channel number (at-take h.logged (moved_lines o p) called.0 _ called.1) in
+      let call = call-at o p called.1.0 channel number called.0 (at-take h.logged (moved_lines o p) called.1.0 _ called.1.1) in
       (1, omega (arith, one), (adding 0 9, refl, call.1), (λ q low high meant. omega (arith, low, high)))
 
   pub moved-circuit : (o p : Outcome) → LegalCircuit server c (moved_lines o p) (moved_entries value)
+  unfolding number16
   moved-circuit o p = record {
     client = moved-client;
     server = moved-server;

@@ -1,6 +1,6 @@
 -- These histories are unsafe, since what is owed is not done.
 use Rattle.std.proofs.Common.{◌≡◌, ℕ, ◌<◌, ◌≤◌, inl, inr, List, [], ◌∷◌, length, refl, sym, ap, subst, ◌∙◌, arith}
-use Rattle.std.specs.Prelude.{false, None, take}
+use Rattle.std.specs.Prelude.{false, take}
 use Rattle.ca_text.specs.Place.{At}
 use Rattle.ca_text.specs.Status.{normal}
 use Rattle.ca_text.proofs.Places.{some_is}
@@ -9,7 +9,7 @@ use Rattle.ca_dbr.specs.declared.value.Outcome.TheVariants as outcome
 use Rattle.ca_wire.specs.Fields.{Fields}
 use Rattle.ca_wire.specs.Messages.{header_only, status_reply}
 use Rattle.ca_model.specs.Speech.{Is}
-use Rattle.ca_model.specs.History.{Circuit, Entry, Line, Sent, Told, Step, Added, Finished, Clear, Intent, On, Subscribe, Called}
+use Rattle.ca_model.specs.History.{Circuit, Entry, Line, Sent, Told, Step, Added, Finished, Clear, Intent, On, Subscribe, Called, Nothing}
 use Rattle.ca_model.specs.Channels.{IsFinished, IsReply, OfCircuits}
 use Rattle.ca_model.specs.Headline.{Answered, AnswersOwn}
 use Rattle.ca_requests.specs.Meaning.{Means}
@@ -55,9 +55,9 @@ no-message-means m h =
       ]
     ]
 
-no-clear-line : (i : ℕ) → At (take 3 lost_lines) i (Called (On 0 Clear) None) → ⊥
+no-clear-line : (i : ℕ) → At (take 3 lost_lines) i (Called (On 0 Clear) Nothing) → ⊥
 no-clear-line i at =
-    each-at (λ (k : ℕ) (l : Line). l ≡ Called (On 0 Clear) None → ⊥) (take 3 lost_lines) ((λ e. cc), ((λ e. cc), ((λ e. cc), tt))) i _ at refl
+    each-at (λ (k : ℕ) (l : Line). l ≡ Called (On 0 Clear) Nothing → ⊥) (take 3 lost_lines) ((λ e. cc), ((λ e. cc), ((λ e. cc), tt))) i _ at refl
 
 abbrev channel-of : Intent → ℕ
 channel-of (On channel ask) = channel
@@ -74,7 +74,7 @@ never-lost-for-nothing s =
           elim l.9 [
             | inl shut ↦ (let t : unanswered_read.client_open ≡ false = subst (λ (c : Circuit). c.client_open ≡ false) (sym is) shut in cc)
             | inr more ↦ elim more [
-              | inl called ↦ no-clear-line called.0 (subst (λ (k : ℕ). At (take 3 lost_lines) called.0 (Called (On k Clear) None)) on called.1)
+              | inl called ↦ no-clear-line called.0 (subst (λ (k : ℕ). At (take 3 lost_lines) called.0 (Called (On k Clear) Nothing)) on called.1)
               | inr told ↦
                   let at : At (created_told ∷ []) told.0 told.1 = subst (λ (c : Circuit). At c.down told.0 told.1) (sym is) told.3 in
                   let e : told.1 ≡ created_told = (one-at created_told told.0 told.1 at).1 in

@@ -1,6 +1,6 @@
 -- What is sent while a record is removed and added again is legal.
 use Rattle.std.proofs.Common.{◌≡◌, ℕ, ◌<◌, ◌≤◌, ◌⊎◌, inl, inr, List, [], refl, sym, ap, subst, arith}
-use Rattle.std.specs.Prelude.{take, None, ◌≢◌}
+use Rattle.std.specs.Prelude.{take, ◌≢◌}
 use Rattle.ca_text.specs.Place.{At}
 use Rattle.ca_text.proofs.Places.{some_is}
 use Rattle.ca_text.specs.declared.command.Command.TheVariants as command
@@ -8,13 +8,13 @@ use Rattle.ca_dbr.specs.declared.value.Outcome.{Outcome}
 use Rattle.ca_wire.specs.Fields.{Fields}
 use Rattle.ca_model.specs.Speech.{Cid, Clears, Creates, Gives, Id, In, Ioid, Is, SubId}
 use Rattle.ca_model.specs.Sends.{Conduct, HasChannel, IsConnected, IsDisconnect, IsFree, IsOnChannel, IsOpenAt, IsRefused, LegalClient, LegalServer, ReadsBetween, SameIndex}
-use Rattle.ca_model.specs.History.{Noticed, Circuit, Intent, On, OfCircuit, Create, Line, Entry, Called, Subscribe, Sent, Told, Step, Removed, Removal}
+use Rattle.ca_model.specs.History.{Noticed, Circuit, Intent, On, OfCircuit, Create, Line, Entry, Called, Subscribe, Sent, Told, Step, Removed, Removal, Nothing, ToWatch, Wish}
 use Rattle.ca_model.specs.Channels.{Created, IsHeld, Joins, Meant, OfCircuits, OfClients}
-use Rattle.ca_model.specs.Legal.{BecomesLive, IsSent, Legal, LegalCircuit, WasCalled, client_conduct, server_conduct}
+use Rattle.ca_model.specs.Legal.{AsksFor, BecomesLive, IsCalled, IsSent, Legal, LegalCircuit, MayAsk, WasCalled, client_conduct, server_conduct}
 use Rattle.ca_model_examples.specs.Worlds.{adding, clearing, created_told, creating, disconnected, step}
 use Rattle.ca_model_examples.specs.Safe.{reopened, reopened_entries, reopened_lines, reopened_world}
 use Rattle.ca_model_examples.proofs.Lists.{each-at, at-take, at-take-within, one-at}
-use Rattle.ca_model_examples.proofs.Sent.{one-apart, unrefused}
+use Rattle.ca_model_examples.proofs.Sent.{mask-is, one-apart, unrefused}
 
 abbrev cl : Conduct
 cl = client_conduct reopened
@@ -381,16 +381,16 @@ intent-of (Called i e) = i
 intent-of l = OfCircuit
 
 -- the one call
-pub call-at : (o : Outcome) (i : ℕ) (intent : Intent) → At (reopened_lines o) i (Called intent None) → (i ≡ 2) × (On 0 (Subscribe 0) ≡ intent)
-call-at o i intent at =
-    each-at (λ (k : ℕ) (l : Line). l ≡ Called intent None → (k ≡ 2) × (On 0 (Subscribe 0) ≡ intent)) (reopened_lines o) (
+pub call-at : (o : Outcome) (i : ℕ) (intent : Intent) (a : Wish) → At (reopened_lines o) i (Called intent a) → (i ≡ 2) × (On 0 (Subscribe 0) ≡ intent)
+call-at o i intent a at =
+    each-at (λ (k : ℕ) (l : Line). l ≡ Called intent a → (k ≡ 2) × (On 0 (Subscribe 0) ≡ intent)) (reopened_lines o) (
       (λ e. absurd cc),
       ((λ e. absurd cc), ((λ e. (refl, ap intent-of e)), ((λ e. absurd cc), ((λ e. absurd cc), ((λ e. absurd cc), tt))))),
     ) i _ at refl
 
 pub is-held : (o : Outcome) (n channel number : ℕ) → IsHeld (take n (reopened_lines o)) (On channel (Subscribe number))
 is-held o n channel number =
-    ((λ h. (let e = (call-at o h.0 _ (at-take n (reopened_lines o) h.0 _ h.1)).1 in cc)), (λ h. (let e = (call-at o h.0 _ (at-take n (reopened_lines o) h.0 _ h.1)).1 in cc)))
+    ((λ h. (let e = (call-at o h.0 _ Nothing (at-take n (reopened_lines o) h.0 _ h.1)).1 in cc)), (λ h. (let e = (call-at o h.0 _ Nothing (at-take n (reopened_lines o) h.0 _ h.1)).1 in cc)))
 
 -- no line tells what became of a subscription
 abbrev pub noticed-intent : Line → Intent
@@ -494,11 +494,11 @@ gone-told j k sid r e made gone =
           absurd (made.9.3 (subst (λ (z : ℕ). In (take made.2.logged reopened_entries) (Removed z)) (sym is) there))
     ]
 
-sent-again : (o : Outcome) (channel k number : ℕ) (h : Step) → BecomesLive reopened channel k h → In (take h.logged (reopened_lines o)) (Called (On channel (Subscribe number)) None)
+sent-again : (o : Outcome) (channel k number : ℕ) (h : Step) → BecomesLive reopened channel k h → IsCalled (take h.logged (reopened_lines o)) (On channel (Subscribe number))
     → (l : ℕ) × (h.sent ≤ l) × Meant reopened l (On channel (Subscribe number)) × ((p : ℕ) → k < p → p < l → Meant reopened p (On channel Create) → ⊥)
 sent-again o channel k number h live called =
-    let call = call-at o called.0 _ (at-take h.logged (reopened_lines o) called.0 _ called.1) in
-    let within = at-take-within h.logged (reopened_lines o) called.0 _ called.1 in
+    let call = call-at o called.1.0 _ called.0 (at-take h.logged (reopened_lines o) called.1.0 _ called.1.1) in
+    let within = at-take-within h.logged (reopened_lines o) called.1.0 _ called.1.1 in
     elim (reply-at live.0 k live.1 live.2 live.4 live.5 live.7) [
       | inl e ↦
           let is : h ≡ step 1 1 2 = some_is h (step 1 1 2) (sym (subst (λ (i : ℕ). At reopened.heard i h) e.0 live.8)) in
@@ -512,13 +512,17 @@ sent-again o channel k number h live called =
           (4, omega (arith, four), (adding 0 9, refl, call.1), (λ p low high meant. omega (arith, three, low, high)))
     ]
 
+-- the EVENT_ADD asks for what the call did
+added-call : (o : Outcome) → (a : Wish) × In (reopened_lines o) (Called (On 0 (Subscribe 0)) a) × MayAsk (Subscribe 0) a × AsksFor (adding 0 9).message a
+added-call o = (ToWatch 5 1 1, (2, refl), tt, (refl, refl, mask-is 0 9))
+
 legal-circuit : (o : Outcome) → LegalCircuit 0 reopened (reopened_lines o) reopened_entries
 legal-circuit o = record {
   client = reopened-client;
   server = reopened-server;
   called = λ k s at. each-at (λ (i : ℕ) (z : Sent). WasCalled reopened (reopened_lines o) i z.intent z.message) reopened.up (
     (0, refl),
-    ((2, refl), (inr (3, disconnected, step 2 4 5, refl, refl, refl, (refl, refl)), ((0, refl), ((2, refl), tt)))),
+    (added-call o, (inr (3, disconnected, step 2 4 5, refl, refl, refl, (refl, refl)), ((0, refl), (added-call o, tt)))),
   ) k s at;
   told = λ j k sid r e made gone uncleared up. gone-told j k sid r e made gone;
   apart = λ k l channel number lt a b. elim (subscribed-at k channel number a) [
@@ -549,6 +553,6 @@ each-life o P h life x at =
 pub reopened-legal : (o : Outcome) → Legal (reopened_world o)
 reopened-legal o = record {
   circuits = each-circuit o LegalCircuit (legal-circuit o);
-  subscriptions = each-life o (IsSent (reopened_world o)) (λ channel number h. (0, 1, (reopened, refl, refl, (adding 0 9, refl, (call-at o h.0 _ h.1).1))));
+  subscriptions = each-life o (IsSent (reopened_world o)) (λ channel number h. (0, 1, (reopened, refl, refl, (adding 0 9, refl, (call-at o h.1.0 _ h.0 h.1.1).1))));
   ids = one-apart (reopened_world o) reopened refl;
 }

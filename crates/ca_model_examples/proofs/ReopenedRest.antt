@@ -1,17 +1,16 @@
 -- A channel that comes back: what the client's log tells, that no write is applied twice, and what the subscriber saw.
 use Rattle.std.proofs.Common.{◌≡◌, ℕ, ◌<◌, ◌⊎◌, inl, inr, List, [], ◌∷◌, refl, sym, ap, subst, ◌∙◌, arith}
-use Rattle.std.specs.Prelude.{take, true, false, Bool, Option, None}
+use Rattle.std.specs.Prelude.{take, true, false, Bool}
 use Rattle.ca_text.specs.Place.{At}
 use Rattle.ca_text.proofs.Places.{some_is}
 use Rattle.ca_dbr.specs.declared.value.Outcome.{Outcome}
 use Rattle.ca_dbr.specs.declared.value.Outcome.TheVariants as outcome
 use Rattle.ca_dbr.specs.declared.data_type.BaseType.TheVariants as base
 use Rattle.ca_dbr.specs.declared.data_type.Form.TheVariants as form
-use Rattle.ca_dbr.specs.Elements.{Elements}
 use Rattle.ca_dbr.specs.Elements as E
 use Rattle.ca_model.specs.Speech.{In, Stored}
 use Rattle.ca_wire.specs.Messages.{mask_in}
-use Rattle.ca_model.specs.History.{Circuit, Intent, On, OfCircuit, Create, Request, Subscribe, Put, Line, Entry, Sent, Told, Step, Added, Applied, Finished, Waits, Withdrawn, Removed, Clear, Reply, Update, Cause, Called, Noticed, Updated}
+use Rattle.ca_model.specs.History.{Circuit, Intent, On, OfCircuit, Create, Request, Subscribe, Put, Line, Entry, Sent, Told, Step, Added, Applied, Finished, Waits, Withdrawn, Removed, Clear, Reply, Update, Cause, Called, Noticed, Updated, Nothing, Wish}
 use Rattle.ca_model.specs.Channels.{IsApplied, IsLost, IsOpen, IsRequest, IsUse, Stands, before, updates}
 use Rattle.ca_model.specs.Headline.{ActsOnRecord, AnswersOwn, CompletesOnce, Follows, FollowsRecord, LosesLive, NotTwice, Reads, Sees}
 use Rattle.ca_model.specs.Known.{IsSafe}
@@ -36,7 +35,7 @@ outcome-of (Noticed i o) = o
 outcome-of (Updated i o) = o
 outcome-of l = outcome.Done
 
-no-clear-line : (o : Outcome) (n : ℕ) → In (take n (reopened_lines o)) (Called (On 0 Clear) None) → ⊥
+no-clear-line : (o : Outcome) (n : ℕ) → In (take n (reopened_lines o)) (Called (On 0 Clear) Nothing) → ⊥
 no-clear-line o n h = (is-held o n 0 0).0 h
 
 -- ---- the client's log
@@ -128,7 +127,7 @@ lost-channel o i channel at =
       ((λ e. absurd (not-lost (ap outcome-of e))), ((λ e. absurd cc), ((λ e. absurd cc), ((λ e. ap channel-of (ap noticed-of e)), ((λ e. absurd (not-lost (ap outcome-of e))), tt))))),
     ) i _ at refl
 
-called-at : (o : Outcome) (i : ℕ) (intent : Intent) (e : Option Elements) → At (reopened_lines o) i (Called intent e) → (i ≡ 2) × (On 0 (Subscribe 0) ≡ intent)
+called-at : (o : Outcome) (i : ℕ) (intent : Intent) (e : Wish) → At (reopened_lines o) i (Called intent e) → (i ≡ 2) × (On 0 (Subscribe 0) ≡ intent)
 called-at o i intent e at =
     each-at (λ (k : ℕ) (l : Line). l ≡ Called intent e → (k ≡ 2) × (On 0 (Subscribe 0) ≡ intent)) (reopened_lines o) (
       (λ f. absurd cc),

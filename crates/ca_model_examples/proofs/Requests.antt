@@ -1,9 +1,9 @@
 -- Histories that break a part of what is said of requests: what is sent, and how often.
 use Rattle.std.proofs.Common.{◌≡◌, ℕ, inl, inr, List, [], ◌∷◌, refl, subst, arith}
-use Rattle.std.specs.Prelude.{false, None}
+use Rattle.std.specs.Prelude.{false}
 use Rattle.ca_text.specs.Place.{At}
 use Rattle.ca_dbr.specs.declared.value.Outcome.TheVariants as outcome
-use Rattle.ca_model.specs.History.{Request, Read, On, Sent, Circuit, Line, Opened, Called}
+use Rattle.ca_model.specs.History.{Request, Read, On, Sent, Circuit, Line, Opened, Called, ToRead}
 use Rattle.ca_model_examples.specs.Worlds.{AnyDue, circuit, reading, temp_name, world}
 use Rattle.ca_model_examples.specs.Parts.{Part, Holds, BreaksOnly, IsSafeNow, InCircuit}
 use Rattle.ca_model_examples.specs.Parts as part
@@ -17,7 +17,7 @@ abbrev sent : List Sent → Circuit
 sent up = circuit up [] [] []
 
 -- the call of the read was sent at place 0
-sent-first : (more : List Sent) (x : List Line) → SentAt (world (sent (reading 0 7 ∷ more) ∷ []) x temp_there) 1 (Called (On 0 (Request Read 0)) None)
+sent-first : (more : List Sent) (x : List Line) → SentAt (world (sent (reading 0 7 ∷ more) ∷ []) x temp_there) 1 (Called (On 0 (Request Read 0)) (ToRead 5 1))
 sent-first more x asks = (0, 0, (sent (reading 0 7 ∷ more), refl, refl, (reading 0 7, refl, refl)))
 
 read-each : (p : Part) → Holds AnyDue p (unread (reading 0 7 ∷ []) read_called)
@@ -43,7 +43,7 @@ again-rest part.SentOnce ne = sent-each (sent (reading 0 7 ∷ [])) called_again
 again-rest p ne = quiet AnyDue p (sent (reading 0 7 ∷ [])) called_again temp_there refl refl refl refl refl
 
 pub called-twice : BreaksOnly part.OneCall (unread (reading 0 7 ∷ []) called_again)
-called-twice = (again-rest, λ h. (let e = h.1 0 called_again refl 1 2 (On 0 (Request Read 0)) None None refl refl in omega (arith, e)))
+called-twice = (again-rest, λ h. (let e = h.1 0 called_again refl 1 2 (On 0 (Request Read 0)) (ToRead 5 1) (ToRead 5 1) refl refl in omega (arith, e)))
 
 unsent-rest : (p : Part) → (p ≡ part.SentOnce → ⊥) → Holds AnyDue p (unread [] read_called)
 unsent-rest part.SentOnce ne = absurd (ne refl)
@@ -53,7 +53,7 @@ pub not-sent : BreaksOnly part.SentOnce (unread [] read_called)
 not-sent = (
   unsent-rest,
   λ h.
-      (let s = h.1 0 read_called refl (On 0 (Request Read 0)) None tt (1, refl) in
+      (let s = h.1 0 read_called refl (On 0 (Request Read 0)) (ToRead 5 1) tt (1, refl) in
       let c = one-at (sent []) s.0 s.2.0 s.2.1 in
       none-at s.1 s.2.3.0 (subst (λ (d : Circuit). At d.up s.1 s.2.3.0) c.1 s.2.3.1)),
 )
@@ -72,12 +72,12 @@ abbrev ended : Circuit
 ended = record (circuit (reading 0 7 ∷ []) [] [] []) { client_open = false }
 
 abbrev lost_lines : List Line → List Line
-lost_lines more = Opened 0 temp_name ∷ Called (On 0 (Request Read 0)) None ∷ more
+lost_lines more = Opened 0 temp_name ∷ Called (On 0 (Request Read 0)) (ToRead 5 1) ∷ more
 
 lost-told : (more : List Line) (i : ℕ) → ToldAt (disconnected more) (lost_lines more) i read_lost
 lost-told more i = inr (refl, (0, 0, 0, Request Read 0, ended, refl, refl, refl, (reading 0 7, refl, refl), inl refl))
 
-lost-sent : (more : List Line) → SentAt (disconnected more) 1 (Called (On 0 (Request Read 0)) None)
+lost-sent : (more : List Line) → SentAt (disconnected more) 1 (Called (On 0 (Request Read 0)) (ToRead 5 1))
 lost-sent more asks = (0, 0, (ended, refl, refl, (reading 0 7, refl, refl)))
 
 lost-each : (p : Part) → Holds AnyDue p (disconnected (read_lost ∷ []))

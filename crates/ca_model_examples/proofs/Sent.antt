@@ -1,21 +1,23 @@
 -- What is legal in small histories, by tests that compute.
 use Rattle.std.proofs.Common.{◌≡◌, ℕ, zero, suc, ◌<◌, ◌≤◌, ◌%◌, ◌⊎◌, inl, inr, List, [], ◌∷◌, refl, sym, ap, subst, ◌∙◌, arith}
-use Rattle.std.specs.Prelude.{Bool, true, false, not, ◌&&◌, ◌||◌, ◌==◌, None, Some, bytes_eq, take}
+use Rattle.std.specs.Prelude.{Bool, true, false, not, ◌&&◌, ◌||◌, ◌==◌, bytes_eq, take}
 use Rattle.std.proofs.lemmas.Slice.Eq.{bytes_eq-Decides}
 use Rattle.std.proofs.lemmas.Bool.{not-false, and_from, and_parts, eq-eqb, eqb-true, or_cases}
 use Rattle.ca_text.specs.Limits.{arena_slots}
 use Rattle.ca_text.specs.Place.{At}
 use Rattle.ca_text.proofs.Places.{some_is}
 use Rattle.ca_wire.specs.Fields.{Fields, padded}
+use Rattle.ca_wire.specs.Header.{number16}
+use Rattle.ca_wire.specs.Messages.{mask_in}
 use Rattle.ca_text.specs.declared.command.Command.TheVariants as command
 use Rattle.ca_model.specs.Speech.{Id, Cid, Ioid, SubId, Gives, In, Is, name_in, sid_in}
 use Rattle.ca_dbr.specs.Elements.{Elements, base_of, bytes_of, count_of}
 use Rattle.ca_dbr.specs.Types.{base_number}
-use Rattle.ca_model.specs.History.{Cancel, Clear, Create, Kind, Put, Read, Request, Subscribe, Write, Intent, On, OfCircuit, Sent, Step, Circuit, Entry, Line, Called, Opened, World}
+use Rattle.ca_model.specs.History.{Ask, Cancel, Clear, Create, Kind, Put, Read, Request, Subscribe, Write, Intent, On, OfCircuit, Sent, Step, Circuit, Entry, Line, Called, Opened, Nothing, ToRead, ToWatch, ToWrite, Wish, World}
 use Rattle.ca_model.specs.Channels.{OfCircuits}
 use Rattle.ca_model.specs.Sends.{Conduct, HasChannel, IsDisconnect, IsOnChannel, IsRefused, ReadsBetween, SameIndex}
-use Rattle.ca_model.specs.Legal.{Carries, IdsAreApart, IsGiven, Legal, WasCalled, client_conduct, server_conduct}
-use Rattle.ca_model_examples.specs.Worlds.{AnyDue, created_told, creating, world}
+use Rattle.ca_model.specs.Legal.{AsksFor, Carries, IdsAreApart, Legal, MayAsk, WasCalled, client_conduct, server_conduct}
+use Rattle.ca_model_examples.specs.Worlds.{AnyDue, adding, created_told, creating, world}
 use Rattle.ca_model_examples.specs.Parts.{Sending, CalledSo, HeldSo, MaySend, SentSo}
 use Rattle.ca_model_examples.specs.Parts as part
 use Rattle.ca_model_examples.proofs.Lists.{none-at, one-at}
@@ -188,28 +190,68 @@ carries-so m e h =
     let head = and_parts (m.data_type == base_number (base_of e)) (m.count == count_of e) parts.0 in
     record { typed = eqb-true m.data_type (base_number (base_of e)) head.0; counted = eqb-true m.count (count_of e) head.1; payload = (bytes_eq-Decides m.payload (padded (bytes_of e))).0 parts.1 }
 
--- the line calls what is meant so, with no value, or with that of the message; or it opens the channel under this name
-abbrev pub calls_it : Intent → Line → Bool
-calls_it i (Called j None) = same_call i j
-calls_it i l = false
+-- the message asks for this, and what is asked so may
+abbrev pub asks_for : Fields → Wish → Bool
+asks_for m Nothing = true
+asks_for m (ToRead data_type count) = m.data_type == data_type && m.count == count
+asks_for m (ToWatch data_type count mask) = (m.data_type == data_type && m.count == count) && mask_in m == mask
+asks_for m (ToWrite e) = carries m e
 
-abbrev pub gives_it : Intent → Fields → Line → Bool
-gives_it i m (Called j (Some e)) = same_call i j && carries m e
-gives_it i m l = false
+abbrev pub may_ask : Ask → Wish → Bool
+may_ask (Request Read n) (ToRead data_type count) = true
+may_ask (Request Put n) (ToWrite e) = true
+may_ask (Request Write n) (ToWrite e) = true
+may_ask (Subscribe n) (ToWatch data_type count mask) = true
+may_ask (Cancel n) Nothing = true
+may_ask k a = false
+
+asks-so : (m : Fields) (a : Wish) → asks_for m a ≡ true → AsksFor m a
+asks-so m Nothing h = tt
+asks-so m (ToRead data_type count) h =
+    let parts = and_parts (m.data_type == data_type) (m.count == count) h in
+    (eqb-true m.data_type data_type parts.0, eqb-true m.count count parts.1)
+asks-so m (ToWatch data_type count mask) h =
+    let parts = and_parts (m.data_type == data_type && m.count == count) (mask_in m == mask) h in
+    let head = and_parts (m.data_type == data_type) (m.count == count) parts.0 in
+    (eqb-true m.data_type data_type head.0, eqb-true m.count count head.1, eqb-true (mask_in m) mask parts.1)
+asks-so m (ToWrite e) h = carries-so m e h
+
+may-ask : (k : Ask) (a : Wish) → may_ask k a ≡ true → MayAsk k a
+may-ask (Request Read n) (ToRead data_type count) h = tt
+may-ask (Request Put n) (ToWrite e) h = tt
+may-ask (Request Write n) (ToWrite e) h = tt
+may-ask (Subscribe n) (ToWatch data_type count mask) h = tt
+may-ask (Cancel n) Nothing h = tt
+may-ask k a h = absurd cc
+
+-- the EVENT_ADDs of these histories ask for VALUE
+pub mask-is : (number id : ℕ) → mask_in (adding number id).message ≡ 1
+unfolding number16
+mask-is number id = refl
+
+-- the line calls what is meant so, for what the message asks; or it clears the channel; or it opens the channel under this name
+abbrev pub calls_it : ℕ → Ask → Fields → Line → Bool
+calls_it a k m (Called j w) = same_call (On a k) j && (may_ask k w && asks_for m w)
+calls_it a k m l = false
+
+abbrev pub clears_it : ℕ → Line → Bool
+clears_it a (Called j Nothing) = same_call (On a Clear) j
+clears_it a l = false
 
 abbrev pub opens_it : ℕ → List ℕ → Line → Bool
 opens_it a name (Opened b other) = a == b && bytes_eq name other
 opens_it a name l = false
 
-line-called : (i : Intent) (l : Line) → calls_it i l ≡ true → l ≡ Called i None
-line-called i (Called j None) h = ap (λ (z : Intent). Called z None) (sym (call-is i j h))
-line-called i l h = absurd cc
+line-called : (a : ℕ) (k : Ask) (m : Fields) (l : Line) → calls_it a k m l ≡ true → (w : Wish) × (l ≡ Called (On a k) w) × MayAsk k w × AsksFor m w
+line-called a k m (Called j w) h =
+    let parts = and_parts (same_call (On a k) j) (may_ask k w && asks_for m w) h in
+    let wish = and_parts (may_ask k w) (asks_for m w) parts.1 in
+    (w, ap (λ (z : Intent). Called z w) (sym (call-is (On a k) j parts.0)), may-ask k w wish.0, asks-so m w wish.1)
+line-called a k m l h = absurd cc
 
-line-given : (i : Intent) (m : Fields) (l : Line) → gives_it i m l ≡ true → (given : Elements) × (l ≡ Called i (Some given)) × Carries m given
-line-given i m (Called j (Some e)) h =
-    let parts = and_parts (same_call i j) (carries m e) h in
-    (e, ap (λ (z : Intent). Called z (Some e)) (sym (call-is i j parts.0)), carries-so m e parts.1)
-line-given i m l h = absurd cc
+line-cleared : (a : ℕ) (l : Line) → clears_it a l ≡ true → l ≡ Called (On a Clear) Nothing
+line-cleared a (Called j Nothing) h = ap (λ (z : Intent). Called z Nothing) (sym (call-is (On a Clear) j h))
+line-cleared a l h = absurd cc
 
 line-opened : (a : ℕ) (name : List ℕ) (l : Line) → opens_it a name l ≡ true → l ≡ Opened a name
 line-opened a name (Opened b other) h =
@@ -252,12 +294,10 @@ told_by h x = any is_called (take h.logged x) || any is_noticed (take h.logged x
 -- what is meant by the message was called
 abbrev pub was_called : List Line → Intent → Fields → Bool
 was_called x (On a Create) m = any (opens_it a (name_in m)) x
-was_called x (On a (Request Put n)) m = any (gives_it (On a (Request Put n)) m) x
-was_called x (On a (Request Write n)) m = any (gives_it (On a (Request Write n)) m) x
-was_called x (On a (Request Read n)) m = any (calls_it (On a (Request Read n))) x
-was_called x (On a (Subscribe n)) m = any (calls_it (On a (Subscribe n))) x
-was_called x (On a (Cancel n)) m = any (calls_it (On a (Cancel n))) x
-was_called x (On a Clear) m = any (calls_it (On a Clear)) x
+was_called x (On a (Request k n)) m = any (calls_it a (Request k n) m) x
+was_called x (On a (Subscribe n)) m = any (calls_it a (Subscribe n) m) x
+was_called x (On a (Cancel n)) m = any (calls_it a (Cancel n) m) x
+was_called x (On a Clear) m = any (clears_it a) x
 was_called x OfCircuit m = true
 
 abbrev pub send_test : Sending → Circuit → List Line → List Entry → Bool
@@ -290,23 +330,21 @@ not-true-false false h = refl
 apart-so : (s r : Sent) (channel number : ℕ) → s.intent ≡ On channel (Subscribe number) → r.intent ≡ On channel (Subscribe number) → one_subscription s.intent r.intent ≡ true
 apart-so s r channel number e f = subst (λ (i : Intent). one_subscription i r.intent ≡ true) (sym e) (subst (λ (i : Intent). one_subscription (On channel (Subscribe number)) i ≡ true) (sym f) (one-subscription channel number))
 
-was-given : (x : List Line) (i : Intent) (m : Fields) → any (gives_it i m) x ≡ true → IsGiven x i m
-was-given x i m h =
-    let it = there (gives_it i m) x h in
-    let line = line-given i m it.1 it.3 in
-    (line.0, (it.0, subst (λ (l : Line). At x it.0 l) line.1 it.2), line.2)
+was-asked : (x : List Line) (a : ℕ) (k : Ask) (m : Fields) → any (calls_it a k m) x ≡ true → (w : Wish) × In x (Called (On a k) w) × MayAsk k w × AsksFor m w
+was-asked x a k m h =
+    let it = there (calls_it a k m) x h in
+    let line = line-called a k m it.1 it.3 in
+    (line.0, (it.0, subst (λ (l : Line). At x it.0 l) line.1 it.2), line.2, line.3)
 
-was-in : (x : List Line) (i : Intent) → any (calls_it i) x ≡ true → In x (Called i None)
-was-in x i h = (let it = there (calls_it i) x h in (it.0, subst (λ (l : Line). At x it.0 l) (line-called i it.1 it.3) it.2))
+was-cleared : (x : List Line) (a : ℕ) → any (clears_it a) x ≡ true → In x (Called (On a Clear) Nothing)
+was-cleared x a h = (let it = there (clears_it a) x h in (it.0, subst (λ (l : Line). At x it.0 l) (line-cleared a it.1 it.3) it.2))
 
 was-called : (c : Circuit) (x : List Line) (k : ℕ) (i : Intent) (m : Fields) → was_called x i m ≡ true → WasCalled c x k i m
 was-called c x k (On a Create) m h = (let it = there (opens_it a (name_in m)) x h in (it.0, subst (λ (l : Line). At x it.0 l) (line-opened a (name_in m) it.1 it.3) it.2))
-was-called c x k (On a (Request Put n)) m h = was-given x (On a (Request Put n)) m h
-was-called c x k (On a (Request Write n)) m h = was-given x (On a (Request Write n)) m h
-was-called c x k (On a (Request Read n)) m h = was-in x (On a (Request Read n)) h
-was-called c x k (On a (Subscribe n)) m h = was-in x (On a (Subscribe n)) h
-was-called c x k (On a (Cancel n)) m h = was-in x (On a (Cancel n)) h
-was-called c x k (On a Clear) m h = inl (was-in x (On a Clear) h)
+was-called c x k (On a (Request kind n)) m h = was-asked x a (Request kind n) m h
+was-called c x k (On a (Subscribe n)) m h = was-asked x a (Subscribe n) m h
+was-called c x k (On a (Cancel n)) m h = was-asked x a (Cancel n) m h
+was-called c x k (On a Clear) m h = inl (was-cleared x a h)
 was-called c x k OfCircuit m h = tt
 
 called-in : (c : Circuit) (x : List Line) → not (any (λ (s : Sent). not (was_called x s.intent s.message)) c.up) ≡ true → (k : ℕ) (s : Sent) → At c.up k s → WasCalled c x k s.intent s.message
@@ -329,7 +367,7 @@ quiet-sent part.ToldRemoved c x y t = λ j k sid r e made gone uncleared up.
       | inr a ↦ none is_removed y a e _ gone refl
     ])
 quiet-sent part.Apart c x y t = λ k l channel number lt a b. absurd (spread-at (λ (s r : Sent). one_subscription s.intent r.intent) c.up t k l a.0 b.0 lt a.1 b.1 (apart-so a.0 b.0 channel number a.2 b.2))
-quiet-sent part.Anew c x y t = λ channel k number h live standing. absurd (any-not subscribes (take h.logged x) (any-at (λ (g : Step). any subscribes (take g.logged x)) c.heard (not-true-false _ t) live.0 h live.8) standing.0.0 _ standing.0.1 refl)
+quiet-sent part.Anew c x y t = λ channel k number h live standing. absurd (any-not subscribes (take h.logged x) (any-at (λ (g : Step). any subscribes (take g.logged x)) c.heard (not-true-false _ t) live.0 h live.8) standing.0.1.0 _ standing.0.1.1 refl)
 quiet-sent part.Ended c x y t = λ channel k l number h live lt meant.
     elim (or_cases (not (any (λ (s : Sent). is_subscription s.intent) c.up)) (not (any (λ (g : Step). told_by g x) c.heard)) t) [
       | inl a ↦ absurd (none (λ (s : Sent). is_subscription s.intent) c.up a l meant.0 meant.1 (ap is_subscription meant.2))
@@ -346,7 +384,7 @@ pub quiet-called : (p : Sending) (c : Circuit) (x : List Line) (y : List Entry) 
 quiet-called part.HasAdd c x y t = λ channel number h.
     let intent : Intent = On channel (Subscribe number) in
     let parts = and_parts (c.client == 0) _ t in
-    let missing = any-at (λ (l : Line). subscribes l && not (any (λ (s : Sent). same_call (intent_in l) s.intent) c.up)) x (not-true-false _ parts.1) h.0 (Called intent None) h.1 in
+    let missing = any-at (λ (l : Line). subscribes l && not (any (λ (s : Sent). same_call (intent_in l) s.intent) c.up)) x (not-true-false _ parts.1) h.1.0 (Called intent h.0) h.1.1 in
     let it = there (λ (s : Sent). same_call intent s.intent) c.up (so-then true (any (λ (s : Sent). same_call intent s.intent) c.up) missing refl) in
     (0, it.0, (c, refl, eqb-true c.client 0 parts.0, (it.1, it.2, sym (call-is intent (it.1).intent it.3))))
 quiet-called p c x y t = tt

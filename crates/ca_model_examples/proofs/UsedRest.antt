@@ -1,13 +1,13 @@
 -- The used channel: what its client's log tells, and that no write is applied twice.
 use Rattle.std.proofs.Common.{◌≡◌, ℕ, ◌⊎◌, inl, inr, List, [], ◌∷◌, refl, sym, ap, subst, ◌∙◌, arith}
-use Rattle.std.specs.Prelude.{false, Option, None, take, pos}
+use Rattle.std.specs.Prelude.{false, Option, take, pos}
 use Rattle.ca_text.specs.Place.{At}
 use Rattle.ca_dbr.specs.declared.value.Outcome.{Outcome}
 use Rattle.ca_dbr.specs.declared.value.Outcome.TheVariants as outcome
-use Rattle.ca_dbr.specs.Elements.{Elements, longs}
+use Rattle.ca_dbr.specs.Elements.{longs}
 use Rattle.ca_wire.specs.Fields.{Fields}
 use Rattle.ca_model.specs.Speech.{In, Stored}
-use Rattle.ca_model.specs.History.{Create, Clear, Request, Subscribe, Read, Put, Intent, On, OfCircuit, Reply, Circuit, Entry, Line, Sent, Added, Applied, Finished, Waits, Withdrawn, Called, Noticed, Updated}
+use Rattle.ca_model.specs.History.{Create, Clear, Request, Subscribe, Read, Put, Intent, On, OfCircuit, Reply, Circuit, Entry, Line, Sent, Added, Applied, Finished, Waits, Withdrawn, Called, Noticed, Updated, Nothing, Wish}
 use Rattle.ca_model.specs.Channels.{IsApplied, IsOwnWrite, IsRequest, IsUse, Lasts, Stands, updates}
 use Rattle.ca_model.specs.Headline.{CompletesOnce, NotTwice, Reads}
 use Rattle.ca_requests.specs.Meaning.{Means}
@@ -44,14 +44,14 @@ sent-at i = 0
 
 -- ---- the client's log
 
-no-clear : (n : ℕ) → In (take n used_lines) (Called (On 0 Clear) None) → ⊥
+no-clear : (n : ℕ) → In (take n used_lines) (Called (On 0 Clear) Nothing) → ⊥
 no-clear n h =
-    each-at (λ (k : ℕ) (l : Line). l ≡ Called (On 0 Clear) None → ⊥) used_lines (
+    each-at (λ (k : ℕ) (l : Line). l ≡ Called (On 0 Clear) Nothing → ⊥) used_lines (
       (λ e. cc),
       ((λ e. cc), ((λ e. cc), ((λ e. cc), ((λ e. cc), ((λ e. cc), tt))))),
     ) h.0 _ (at-take n used_lines h.0 _ h.1) refl
 
-calls : (i : ℕ) (intent : Intent) (e : Option Elements) → At used_lines i (Called intent e) → i ≡ called-at intent
+calls : (i : ℕ) (intent : Intent) (e : Wish) → At used_lines i (Called intent e) → i ≡ called-at intent
 calls i intent e at =
     each-at (λ (k : ℕ) (l : Line). l ≡ Called intent e → k ≡ called-at intent) used_lines (
       (λ f. absurd cc),

@@ -1,7 +1,7 @@
 -- Histories that break a part of what is said of a read and a put on a channel.
 use Rattle.std.proofs.Common.{◌≡◌, ℕ, ◌<◌, inl, inr, List, [], ◌∷◌, length, refl, sym, ap, subst, ◌∙◌, arith}
 use Rattle.ca_text.proofs.Places.{some_is}
-use Rattle.std.specs.Prelude.{false, None, take, pos}
+use Rattle.std.specs.Prelude.{false, take, pos}
 use Rattle.ca_text.specs.Place.{At}
 use Rattle.ca_dbr.specs.Elements.{longs}
 use Rattle.ca_dbr.specs.declared.value.Outcome.{Outcome}
@@ -9,7 +9,7 @@ use Rattle.ca_dbr.specs.declared.value.Outcome.TheVariants as outcome
 use Rattle.ca_records.specs.Record.{RecordState}
 use Rattle.ca_wire.specs.Fields.{Fields}
 use Rattle.ca_model.specs.Speech.{In, Stored, Id}
-use Rattle.ca_model.specs.History.{Create, Clear, Request, Read, Put, On, Intent, Sent, Told, Step, Circuit, Entry, Line, Added, Removed, Applied, Opened, Called, Noticed, Ask}
+use Rattle.ca_model.specs.History.{Create, Clear, Request, Read, Put, On, Intent, Sent, Told, Step, Circuit, Entry, Line, Added, Removed, Applied, Opened, Called, Noticed, Nothing, Ask}
 use Rattle.ca_model.specs.Channels.{IsNamed, IsOwnWrite, Stands, IsApplied, IsReply, IsUse, Meant, before}
 use Rattle.ca_model_examples.specs.Worlds.{reply, created_told, AnyDue, circuit, creating, long, putting, reading, step, temp, world}
 use Rattle.ca_model_examples.specs.Parts.{Part, Holds, BreaksOnly, IsSafeNow, InCircuit}
@@ -208,8 +208,8 @@ failed-other k j after bad =
           ]
         ]
 
-not-cleared : (o : Outcome) → In (take 2 (put_told o)) (Called (On 0 Clear) None) → ⊥
-not-cleared o h = each-at (λ (i : ℕ) (l : Line). l ≡ Called (On 0 Clear) None → ⊥) (take 2 (put_told o)) ((λ e. cc), ((λ e. cc), tt)) h.0 _ h.1 refl
+not-cleared : (o : Outcome) → In (take 2 (put_told o)) (Called (On 0 Clear) Nothing) → ⊥
+not-cleared o h = each-at (λ (i : ℕ) (l : Line). l ≡ Called (On 0 Clear) Nothing → ⊥) (take 2 (put_told o)) ((λ e. cc), ((λ e. cc), tt)) h.0 _ h.1 refl
 
 put-reads : (m : Fields) (after : ℕ) (o : Outcome) (y : List Entry) → Means m o → ToldAt (world (put_read m after ∷ []) (put_told o) y) (put_told o) 2 (Noticed (On 0 (Request Put 0)) o)
 put-reads m after o y means = inl (

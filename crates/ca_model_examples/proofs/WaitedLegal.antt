@@ -1,13 +1,12 @@
 -- What is sent around a put that waited while its client began again is legal.
 use Rattle.std.proofs.Common.{◌≡◌, ℕ, ◌<◌, ◌⊎◌, inl, inr, refl, sym, arith}
-use Rattle.std.specs.Prelude.{None}
 use Rattle.ca_text.specs.Place.{At}
 use Rattle.ca_text.specs.declared.command.Command.TheVariants as command
 use Rattle.ca_dbr.specs.Elements.{signed_bytes_4}
 use Rattle.ca_wire.specs.Fields.{Fields}
 use Rattle.ca_model.specs.Speech.{Cid, Creates, Gives, Id, Ioid, Is, SubId}
 use Rattle.ca_model.specs.Sends.{Conduct, HasChannel, IsDisconnect, IsOnChannel, LegalClient, LegalServer, ReadsBetween, SameIndex}
-use Rattle.ca_model.specs.History.{On, Line, Called, Subscribe, Sent}
+use Rattle.ca_model.specs.History.{On, Line, Called, Subscribe, Sent, Wish}
 use Rattle.ca_model.specs.Channels.{Meant}
 use Rattle.ca_model.specs.Legal.{IsSent, Legal, LegalCircuit, client_conduct, server_conduct}
 use Rattle.ca_model_examples.specs.Worlds.{created_told, creating}
@@ -147,9 +146,9 @@ no-subscription : (k channel number : ℕ) → Meant waited k (On channel (Subsc
 no-subscription k channel number m =
     each-at (λ (i : ℕ) (s : Sent). s.intent ≡ On channel (Subscribe number) → ⊥) waited.up ((λ e. cc), ((λ e. cc), ((λ e. cc), tt))) k m.0 m.1 m.2
 
-none-called : (i channel number : ℕ) → At waited_lines i (Called (On channel (Subscribe number)) None) → ⊥
-none-called i channel number at =
-    each-at (λ (k : ℕ) (l : Line). l ≡ Called (On channel (Subscribe number)) None → ⊥) waited_lines ((λ e. cc), ((λ e. cc), ((λ e. cc), ((λ e. cc), tt)))) i _ at refl
+none-called : (i channel number : ℕ) (a : Wish) → At waited_lines i (Called (On channel (Subscribe number)) a) → ⊥
+none-called i channel number a at =
+    each-at (λ (k : ℕ) (l : Line). l ≡ Called (On channel (Subscribe number)) a → ⊥) waited_lines ((λ e. cc), ((λ e. cc), ((λ e. cc), ((λ e. cc), tt)))) i _ at refl
 
 legal-circuit : LegalCircuit 0 waited waited_lines waited_entries
 unfolding signed_bytes_4
@@ -159,13 +158,13 @@ legal-circuit = record {
   called = quiet-sent part.HasCall waited waited_lines waited_entries refl;
   told = λ j k sid r e made gone uncleared up. absurd (no-removed e r gone);
   apart = λ k l channel number lt a b. absurd (no-subscription k channel number a);
-  renewed = λ channel k number h live standing. absurd (none-called standing.0.0 channel number (at-take h.logged waited_lines standing.0.0 _ standing.0.1));
+  renewed = λ channel k number h live standing. absurd (none-called standing.0.1.0 channel number standing.0.0 (at-take h.logged waited_lines standing.0.1.0 _ standing.0.1.1));
   ended = λ channel k l number h live lt meant. absurd (no-subscription l channel number meant);
 }
 
 pub waited-legal : Legal waited_world
 waited-legal = record {
   circuits = each-circuit LegalCircuit legal-circuit;
-  subscriptions = each-life (IsSent waited_world) (λ channel number h. absurd (none-called h.0 channel number h.1)) (λ channel number h. absurd (none-at h.0 _ h.1));
+  subscriptions = each-life (IsSent waited_world) (λ channel number h. absurd (none-called h.1.0 channel number h.0 h.1.1)) (λ channel number h. absurd (none-at h.1.0 _ h.1.1));
   ids = one-apart waited_world waited refl;
 }

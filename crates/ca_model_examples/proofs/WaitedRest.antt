@@ -1,12 +1,12 @@
 -- A put that waits while its client begins again: what clients' logs tell, that no write is applied twice, and what subscribers saw.
 use Rattle.std.proofs.Common.{◌≡◌, ℕ, suc, ◌⊎◌, inl, inr, List, [], ◌∷◌, refl, sym, ap, subst, ◌∙◌, arith}
-use Rattle.std.specs.Prelude.{take, Option, None, pos}
+use Rattle.std.specs.Prelude.{take, pos}
 use Rattle.ca_text.specs.Place.{At}
 use Rattle.ca_dbr.specs.declared.value.Outcome.{Outcome}
 use Rattle.ca_dbr.specs.declared.value.Outcome.TheVariants as outcome
-use Rattle.ca_dbr.specs.Elements.{Elements, longs}
+use Rattle.ca_dbr.specs.Elements.{longs}
 use Rattle.ca_model.specs.Speech.{In, Stored}
-use Rattle.ca_model.specs.History.{Circuit, Intent, On, OfCircuit, Create, Request, Subscribe, Put, Line, Entry, Sent, Applied, Waits, Withdrawn, Finished, Clear, Reply, Called, Noticed, Updated}
+use Rattle.ca_model.specs.History.{Circuit, Intent, On, OfCircuit, Create, Request, Subscribe, Put, Line, Entry, Sent, Applied, Waits, Withdrawn, Finished, Clear, Reply, Called, Noticed, Updated, Nothing, Wish}
 use Rattle.ca_model.specs.Channels.{CameIn, IsApplied, IsBusyUntil, IsLost, IsOwnWrite, IsUse, IsWaiting, Joins, OfCircuits, OfClients, Stands}
 use Rattle.ca_model.specs.Headline.{ActsOnRecord, AnswersOwn, CompletesOnce, FollowsRecord, NotTwice, Reads, Sees}
 use Rattle.ca_model.specs.Known.{IsSafe}
@@ -41,11 +41,11 @@ sent-at i = 0
 
 -- ---- the log of the first life
 
-no-clear : (n : ℕ) → In (take n waited_lines) (Called (On 0 Clear) None) → ⊥
+no-clear : (n : ℕ) → In (take n waited_lines) (Called (On 0 Clear) Nothing) → ⊥
 no-clear n h =
-    each-at (λ (k : ℕ) (l : Line). l ≡ Called (On 0 Clear) None → ⊥) waited_lines ((λ e. cc), ((λ e. cc), ((λ e. cc), ((λ e. cc), tt)))) h.0 _ (at-take n waited_lines h.0 _ h.1) refl
+    each-at (λ (k : ℕ) (l : Line). l ≡ Called (On 0 Clear) Nothing → ⊥) waited_lines ((λ e. cc), ((λ e. cc), ((λ e. cc), ((λ e. cc), tt)))) h.0 _ (at-take n waited_lines h.0 _ h.1) refl
 
-calls : (i : ℕ) (intent : Intent) (e : Option Elements) → At waited_lines i (Called intent e) → i ≡ called-at intent
+calls : (i : ℕ) (intent : Intent) (e : Wish) → At waited_lines i (Called intent e) → i ≡ called-at intent
 calls i intent e at =
     each-at (λ (k : ℕ) (l : Line). l ≡ Called intent e → k ≡ called-at intent) waited_lines (
       (λ f. absurd cc),

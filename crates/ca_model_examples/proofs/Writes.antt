@@ -1,14 +1,14 @@
 -- Histories that break a part of what is said of writes.
 use Rattle.std.proofs.Common.{◌≡◌, ℕ, ◌⊎◌, inl, inr, List, [], ◌∷◌, refl, sym, ap, subst, ◌∙◌, arith}
 use Rattle.ca_text.proofs.Places.{some_is}
-use Rattle.std.specs.Prelude.{Bool, true, false, Some, take, pos, Ok}
+use Rattle.std.specs.Prelude.{Bool, true, false, take, pos, Ok}
 use Rattle.ca_text.specs.Place.{At}
 use Rattle.ca_dbr.specs.Elements.{Elements, longs, base_of}
 use Rattle.ca_dbr.specs.Conversion.{converted}
 use Rattle.ca_dbr.specs.declared.value.Meta.{Meta}
 use Rattle.ca_records.specs.Record.{RecordState}
 use Rattle.ca_model.specs.Speech.{In, IsWritten, Stored}
-use Rattle.ca_model.specs.History.{Request, Put, On, Circuit, Entry, Line, Added, Removed, Applied, Finished, Opened, Called}
+use Rattle.ca_model.specs.History.{Request, Put, On, Circuit, Entry, Line, Added, Removed, Applied, Finished, Opened, Called, ToWrite}
 use Rattle.ca_model.specs.Channels.{IsBusyUntil, IsHandledIn, HasWaited, IsOwnWrite, IsTaken}
 use Rattle.ca_model_examples.specs.Worlds.{AnyDue, alarmed, long, putting, temp, temp_name, world}
 use Rattle.ca_model_examples.specs.Parts.{Part, Holds, BreaksOnly, IsSafeNow, InCircuit, InLife, InWorld}
@@ -19,11 +19,11 @@ use Rattle.ca_model_examples.proofs.Quiet.{none, few-same, quiet, holds, whole, 
 use Rattle.ca_model_examples.proofs.Shown.{OwnAt, SentAt, finished-each, own-each, sent-each}
 use Rattle.ca_model_examples.proofs.Names.{was-there}
 
-put-sent : (c : Circuit) (x : List Line) (y : List Entry) → c.client ≡ 0 → At c.up 0 (putting 0 8 22) → SentAt (world (c ∷ []) x y) 1 (Called (On 0 (Request Put 0)) (Some (longs (pos 22 ∷ []))))
+put-sent : (c : Circuit) (x : List Line) (y : List Entry) → c.client ≡ 0 → At c.up 0 (putting 0 8 22) → SentAt (world (c ∷ []) x y) 1 (Called (On 0 (Request Put 0)) (ToWrite (longs (pos 22 ∷ []))))
 put-sent c x y e at asks = (0, 0, (c, refl, e, (putting 0 8 22, at, refl)))
 
 -- The put is the caller's own if its value is converted to this one, its record was there, and it was taken.
-own-put : (c : Circuit) (x : List Line) (y : List Entry) (i : ℕ) (v : Stored) → c.client ≡ 0 → c.server ≡ 0 → At c.up 0 (putting 0 8 22) → At x 0 (Opened 0 temp_name) → At x 1 (Called (On 0 (Request Put 0)) (Some (longs (pos 22 ∷ []))))
+own-put : (c : Circuit) (x : List Line) (y : List Entry) (i : ℕ) (v : Stored) → c.client ≡ 0 → c.server ≡ 0 → At c.up 0 (putting 0 8 22) → At x 0 (Opened 0 temp_name) → At x 1 (Called (On 0 (Request Put 0)) (ToWrite (longs (pos 22 ∷ []))))
     → At (take i y) 0 (Added 0 temp) → (In (take i y) (Removed 0) → ⊥) → converted (longs (pos 22 ∷ [])) (base_of temp.value) ≡ Ok v.value
     → IsWritten v → IsTaken c 0 i ⊎ HasWaited 0 c y 0 i 0 → IsOwnWrite (world (c ∷ []) x y) 0 0 0 i 0 v
 own-put c x y i v e f at opens calls there kept value written came = record {
@@ -95,7 +95,7 @@ module _ (c : Circuit) (x : List Line) (y : List Entry) (e : c.client ≡ 0) (f 
   its-entries = some_is y o.y (subst (λ (n : ℕ). At (y ∷ []) n o.y) (ap (λ (d : Circuit). d.server) (sym its-circuit) ∙ f) o.joins.0.2)
 
 abbrev given-of : Line → Elements
-given-of (Called intent (Some e)) = e
+given-of (Called intent (ToWrite e)) = e
 given-of l = longs []
 
 abbrev state-of : Entry → RecordState
@@ -109,8 +109,8 @@ value-rest p ne = quiet AnyDue p closing put_called made_23 refl refl refl refl 
 
 not-own-value : IsOwnWrite (put_closing made_23) 0 0 0 1 0 (long 23) → ⊥
 not-own-value o =
-    let call : At put_called o.called.1.0 (Called (On o.channel o.ask) (Some o.given)) = subst (λ (l : List Line). At l o.called.1.0 (Called (On o.channel o.ask) (Some o.given))) (sym (its-lines closing put_called made_23 refl refl 0 1 0 (long 23) o)) o.called.1.1 in
-    let given : o.given ≡ longs (pos 22 ∷ []) = each-at (λ (i : ℕ) (l : Line). l ≡ Called (On o.channel o.ask) (Some o.given) → o.given ≡ longs (pos 22 ∷ [])) put_called ((λ e. absurd cc), ((λ e. sym (ap given-of e)), tt)) o.called.1.0 _ call refl in
+    let call : At put_called o.called.1.0 (Called (On o.channel o.ask) (ToWrite o.given)) = subst (λ (l : List Line). At l o.called.1.0 (Called (On o.channel o.ask) (ToWrite o.given))) (sym (its-lines closing put_called made_23 refl refl 0 1 0 (long 23) o)) o.called.1.1 in
+    let given : o.given ≡ longs (pos 22 ∷ []) = each-at (λ (i : ℕ) (l : Line). l ≡ Called (On o.channel o.ask) (ToWrite o.given) → o.given ≡ longs (pos 22 ∷ [])) put_called ((λ e. absurd cc), ((λ e. sym (ap given-of e)), tt)) o.called.1.0 _ call refl in
     let there : At (Added 0 temp ∷ []) o.there.1.0 (Added 0 o.to) = subst (λ (l : List Entry). At (take 1 l) o.there.1.0 (Added 0 o.to)) (sym (its-entries closing put_called made_23 refl refl 0 1 0 (long 23) o)) o.there.1.1 in
     let to : o.to ≡ temp = ap state-of (one-at (Added 0 temp) o.there.1.0 _ there).1 in
     let value : converted (longs (pos 22 ∷ [])) (base_of temp.value) ≡ Ok (long 23).value = subst (λ (a : Elements). converted a (base_of temp.value) ≡ Ok (long 23).value) given (subst (λ (a : RecordState). converted o.given (base_of a.value) ≡ Ok (long 23).value) to o.value) in
@@ -148,7 +148,7 @@ uncalled-rest p ne = quiet AnyDue p closing opened made_once refl refl refl refl
 
 not-called : IsOwnWrite (world (closing ∷ []) opened made_once) 0 0 0 1 0 (long 22) → ⊥
 not-called o =
-    let call : At opened o.called.1.0 (Called (On o.channel o.ask) (Some o.given)) = subst (λ (l : List Line). At l o.called.1.0 (Called (On o.channel o.ask) (Some o.given))) (sym (its-lines closing opened made_once refl refl 0 1 0 (long 22) o)) o.called.1.1 in
+    let call : At opened o.called.1.0 (Called (On o.channel o.ask) (ToWrite o.given)) = subst (λ (l : List Line). At l o.called.1.0 (Called (On o.channel o.ask) (ToWrite o.given))) (sym (its-lines closing opened made_once refl refl 0 1 0 (long 22) o)) o.called.1.1 in
     none is_called opened refl o.called.1.0 _ call refl
 
 pub nobody-called : BreaksOnly part.OwnWrite (world (closing ∷ []) opened made_once)

@@ -146,7 +146,7 @@ with_read =
 abbrev pub ReadLeaves : Type 0
 ReadLeaves =
     Leaves (event.Read 0 1 5 1) reading with_read
-    (history.Called (on_temp (Request Read 1)) None ∷ []) (
+    (history.Called (on_temp (Request Read 1)) (history.ToRead 5 1) ∷ []) (
     record { message = read_request (temp_wanted 65536); intent = on_temp (Request Read 1) } ∷ []
     )
     × IsRefused (event.Read 0 1 21 2) refusal.BadType
@@ -158,7 +158,7 @@ written = sending (write_sent first live_temp forty_two ∷ []) alive.core
 abbrev pub WriteLeaves : Type 0
 WriteLeaves =
     Leaves (event.Write 0 1 forty_two) written (record names { writes = 4 }) (
-    history.Called (on_temp (Request Write 3)) (Some forty_two) ∷ []
+    history.Called (on_temp (Request Write 3)) (history.ToWrite forty_two) ∷ []
     ) (
     record {
       message = put_request command.Write (temp_wanted 0) (0 ∷ 0 ∷ 0 ∷ 42 ∷ []);
@@ -179,7 +179,7 @@ PutLeaves =
       requests = (old, history.On 0 (Request Put 0)) ∷
           (first, on_temp (Request Put 1)) ∷ [];
     }
-    ) (history.Called (on_temp (Request Put 1)) (Some forty_two) ∷ []) (
+    ) (history.Called (on_temp (Request Put 1)) (history.ToWrite forty_two) ∷ []) (
     record {
       message = put_request command.WriteNotify (temp_wanted 65536) (0 ∷ 0 ∷ 0 ∷ 42 ∷ []);
       intent = on_temp (Request Put 1);
@@ -198,7 +198,7 @@ with_subscription =
 abbrev pub SubscribeLeaves : Type 0
 SubscribeLeaves =
     Leaves (event.Subscribe 0 1 5 1 1) subscribed with_subscription
-    (history.Called (on_temp (Subscribe 1)) None ∷ []) (
+    (history.Called (on_temp (Subscribe 1)) (history.ToWatch 5 1 1) ∷ []) (
     record {
       message = event_add_request (temp_wanted 65536) 1;
       intent = on_temp (Subscribe 1);
@@ -224,7 +224,7 @@ abbrev pub UnsubscribeLeaves : Type 0
 UnsubscribeLeaves =
     Happens watched (event.Unsubscribe 0 1) (
     world (anna_side (sending (cancel_sending ∷ []) cancelled) with_subscription)
-    (history.Called (on_temp (Cancel 1)) None ∷ []) (
+    (history.Called (on_temp (Cancel 1)) history.Nothing ∷ []) (
     record { message = event_cancel_request (temp_wanted 65536); intent = on_temp (Cancel 1) } ∷ []
     )
     )
@@ -246,7 +246,7 @@ abbrev pub ClearLeaves : Type 0
 ClearLeaves =
     Happens asked (event.Clear 0 1) (
     world (anna_side (sending (clear_sending ∷ []) cleared_live) with_read) (
-    history.Called (on_temp Clear) None ∷ history.Noticed
+    history.Called (on_temp Clear) history.Nothing ∷ history.Noticed
     (on_temp (Request Read 1)) outcome.Disconnected ∷ []
     ) (record { message = clear_request 65536 65536; intent = on_temp Clear } ∷ [])
     )

@@ -1,6 +1,6 @@
 -- Vocabulary: small histories in which one part of what is legal is broken, and no other, beside
 -- legal ones that differ in one place.
-use Rattle.std.specs.Prelude.{ℕ, Bool, false, List, [], ◌∷◌, None, Some}
+use Rattle.std.specs.Prelude.{ℕ, Bool, false, List, [], ◌∷◌}
 use Rattle.std.specs.List.{flat_map}
 use Rattle.ca_text.specs.declared.command.Command.TheVariants as command
 use Rattle.ca_text.specs.Status.{bad_channel}
@@ -9,6 +9,7 @@ use Rattle.ca_wire.specs.Messages.{error_reply, event_add_request, put_request, 
 use Rattle.ca_model.specs.History.{Cancel, Request, Read, Write, Create, Subscribe, Intent, On}
 use Rattle.ca_model.specs.History.{OfCircuit, Sent, Told}
 use Rattle.ca_model.specs.History.{Step, Circuit, Line, Called, Opened, World}
+use Rattle.ca_model.specs.History.{Nothing, ToRead, ToWatch, ToWrite, Wish}
 use Rattle.ca_model_examples.specs.Worlds.{adding, circuit, clearing, created_told, creating}
 use Rattle.ca_model_examples.specs.Worlds.{disconnected, long, reading, reply, step, temp_name}
 use Rattle.ca_model_examples.specs.Worlds.{wanted, world}
@@ -57,7 +58,7 @@ reads_out ioid =
     (created_read ∷ step 2 0 0 ∷ [])
 
 -- A subscription is cancelled, another goes out under its id, and the confirmation was read
--- after so many messages.
+-- after `sent` messages.
 abbrev pub added_after : ℕ → Circuit
 added_after sent =
     circuit (creating ∷ adding 0 9 ∷ cancelling ∷ adding 1 9 ∷ [])
@@ -65,7 +66,7 @@ added_after sent =
     (step 0 0 0 ∷ step 1 0 0 ∷ step 1 0 0 ∷ []) (created_read ∷ step sent 0 0 ∷ [])
 
 -- The channel is cleared, another is asked for with its CID, and the reply to the clear was read
--- after so many messages.
+-- after `sent` messages.
 abbrev pub asked_after : ℕ → Circuit
 asked_after sent =
     circuit (creating ∷ clearing ∷ asked_with 1 ∷ [])
@@ -109,11 +110,12 @@ told_closed down = record (told_so down) { server_open = false }
 
 -- Subscription 1 was called, and also cancelled.
 abbrev pub subscribe_called : List Line
-subscribe_called = Opened 0 temp_name ∷ Called (On 0 (Subscribe 1)) None ∷ []
+subscribe_called = Opened 0 temp_name ∷ Called (On 0 (Subscribe 1)) (ToWatch 5 1 1) ∷ []
 
 abbrev pub cancel_called : List Line
 cancel_called =
-    Opened 0 temp_name ∷ Called (On 0 (Subscribe 1)) None ∷ Called (On 0 (Cancel 1)) None ∷ []
+    Opened 0 temp_name ∷ Called (On 0 (Subscribe 1)) (ToWatch 5 1 1)
+    ∷ Called (On 0 (Cancel 1)) Nothing ∷ []
 
 -- The channel becomes live when the client's log has that many lines, and these messages go out.
 abbrev pub called_at : ℕ → List Sent → Circuit
@@ -139,14 +141,17 @@ added_again =
       intent = On 0 (Subscribe 1);
     }
 
--- the call of a message that is meant so: a write is of 22, and a channel is to TEMP
+-- the call of a message that is meant so: a read is of one LONG, and so is a subscription, for
+-- VALUE; a write is of 22, and a channel is to TEMP
 abbrev pub call_of : Intent → List Line
 call_of (On channel Create) = Opened channel temp_name ∷ []
 call_of (On channel (Request Read number)) =
-    Called (On channel (Request Read number)) None ∷ []
+    Called (On channel (Request Read number)) (ToRead 5 1) ∷ []
 call_of (On channel (Request kind number)) =
-    Called (On channel (Request kind number)) (Some (long 22).value) ∷ []
-call_of (On channel ask) = Called (On channel ask) None ∷ []
+    Called (On channel (Request kind number)) (ToWrite (long 22).value) ∷ []
+call_of (On channel (Subscribe number)) =
+    Called (On channel (Subscribe number)) (ToWatch 5 1 1) ∷ []
+call_of (On channel ask) = Called (On channel ask) Nothing ∷ []
 call_of OfCircuit = []
 
 -- What goes out was called.
@@ -155,7 +160,15 @@ calls up = flat_map (λ (s : Sent). call_of s.intent) up
 
 -- A plain write of this value was called, on a channel to TEMP.
 abbrev pub write_called : ℕ → List Line
-write_called n = Opened 0 temp_name ∷ Called (On 0 (Request Write 0)) (Some (long n).value) ∷ []
+write_called n =
+    Opened 0 temp_name ∷ Called (On 0 (Request Write 0)) (ToWrite (long n).value) ∷ []
+
+-- A read was called that asks for this, or a subscription.
+abbrev pub read_for : Wish → List Line
+read_for asks = Opened 0 temp_name ∷ Called (On 0 (Request Read 0)) asks ∷ []
+
+abbrev pub watch_for : Wish → List Line
+watch_for asks = Opened 0 temp_name ∷ Called (On 0 (Subscribe 0)) asks ∷ []
 
 -- A CLEAR_CHANNEL goes out, and a SERVER_DISCONN was sent; the client took these steps.
 abbrev pub clears_lost : List Step → Circuit

@@ -1,11 +1,11 @@
 -- Vocabulary: a channel whose circuit ends, and that is found again at another server, on a circuit
 -- that was there before.
-use Rattle.std.specs.Prelude.{ℕ, ◌+◌, Bool, true, false, List, [], ◌∷◌, None}
+use Rattle.std.specs.Prelude.{ℕ, ◌+◌, Bool, true, false, List, [], ◌∷◌}
 use Rattle.ca_dbr.specs.declared.value.Outcome.{Outcome}
 use Rattle.ca_dbr.specs.declared.value.Outcome.TheVariants as outcome
 use Rattle.ca_records.specs.Record.{RecordState}
 use Rattle.ca_model.specs.History.{Create, Subscribe, On, Circuit, Entry, Added, Line, Opened}
-use Rattle.ca_model.specs.History.{Called, Noticed, Updated, World}
+use Rattle.ca_model.specs.History.{Called, Noticed, ToWatch, Updated, World}
 use Rattle.ca_model_examples.specs.Worlds.{adding, created_told, creating, long, rights_told, step}
 use Rattle.ca_model_examples.specs.Worlds.{temp, temp_name}
 use Rattle.ca_model_examples.specs.Safe.{first_update}
@@ -41,7 +41,7 @@ moved server live read value stays =
 abbrev pub moved_lines : Outcome → Outcome → List Line
 moved_lines o p =
     Opened 0 temp_name ∷ Noticed (On 0 Create) outcome.Done ∷ Called
-    (On 0 (Subscribe 0)) None ∷ Updated (On 0 (Subscribe 0)) o
+    (On 0 (Subscribe 0)) (ToWatch 5 1 1) ∷ Updated (On 0 (Subscribe 0)) o
     ∷ Noticed (On 0 Create) outcome.Disconnected ∷ Noticed (On 0 Create) outcome.Done ∷ Updated
     (On 0 (Subscribe 0)) p ∷ []
 

@@ -1,6 +1,6 @@
 -- Vocabulary: small histories in which what is owed is not done, or what is done is not what is
 -- owed.
-use Rattle.std.specs.Prelude.{ℕ, ◌≡◌, List, [], ◌∷◌, Option, Some, None, pos, true, false}
+use Rattle.std.specs.Prelude.{ℕ, ◌≡◌, List, [], ◌∷◌, Option, Some, pos, true, false}
 use Rattle.ca_text.specs.declared.command.Command.TheVariants as command
 use Rattle.ca_text.specs.Status.{normal}
 use Rattle.ca_dbr.specs.declared.value.Outcome.TheVariants as outcome
@@ -15,6 +15,7 @@ use Rattle.ca_model.specs.Updates.{Shows}
 use Rattle.ca_model.specs.History.{Clear, Create, Request, Subscribe, Read, Put, Write, On, Sent}
 use Rattle.ca_model.specs.History.{Told, Step, Circuit, Entry, Added, Applied, Finished, Waits}
 use Rattle.ca_model.specs.History.{Withdrawn, Line, Called, Noticed, Opened, World}
+use Rattle.ca_model.specs.History.{Nothing, ToRead, ToWrite}
 use Rattle.ca_model.specs.Headline.{Safe}
 use Rattle.ca_model.specs.Known.{IsSafe}
 use Rattle.ca_requests.specs.Meaning.{Means}
@@ -61,7 +62,7 @@ unanswered_read = live_circuit (reading 0 7 ∷ []) [] []
 abbrev pub lost_lines : List Line
 lost_lines =
     live_lines
-    (Called (On 0 (Request Read 0)) None ∷ Noticed
+    (Called (On 0 (Request Read 0)) (ToRead 5 1) ∷ Noticed
     (On 0 (Request Read 0)) outcome.Disconnected ∷ [])
 
 abbrev pub lost_for_nothing : World
@@ -81,7 +82,7 @@ UnsafeSlow w = Safe SlowDue Shows Means w → ⊥
 
 -- a put of TEMP was accepted
 abbrev pub put_lines : List Line
-put_lines = live_lines (Called (On 0 (Request Put 0)) (Some (longs (pos 22 ∷ []))) ∷ [])
+put_lines = live_lines (Called (On 0 (Request Put 0)) (ToWrite (longs (pos 22 ∷ []))) ∷ [])
 
 -- The put was handled, and its reply sent.
 abbrev pub answered : Circuit
@@ -113,8 +114,8 @@ cleared =
 abbrev pub cleared_lines : List Line
 cleared_lines =
     live_lines (
-    Called (On 0 (Request Put 0)) (Some (longs (pos 22 ∷ []))) ∷ Called (On 0 Clear) None ∷ Noticed
-    (On 0 (Request Put 0)) outcome.Disconnected ∷ []
+    Called (On 0 (Request Put 0)) (ToWrite (longs (pos 22 ∷ []))) ∷ Called (On 0 Clear) Nothing
+    ∷ Noticed (On 0 (Request Put 0)) outcome.Disconnected ∷ []
     )
 
 abbrev pub answered_cleared : World

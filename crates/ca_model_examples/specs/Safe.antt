@@ -1,5 +1,5 @@
 -- Vocabulary: small histories that are safe.
-use Rattle.std.specs.Prelude.{ℕ, ◌+◌, List, [], ◌∷◌, Some, None, pos, false}
+use Rattle.std.specs.Prelude.{ℕ, ◌+◌, List, [], ◌∷◌, pos, false}
 use Rattle.ca_dbr.specs.declared.value.Outcome.{Outcome}
 use Rattle.ca_dbr.specs.declared.value.Outcome.TheVariants as outcome
 use Rattle.ca_dbr.specs.Elements.{longs}
@@ -8,7 +8,7 @@ use Rattle.ca_wire.specs.Messages.{create_request, update, value_reply}
 use Rattle.ca_text.specs.Status.{normal}
 use Rattle.ca_model.specs.History.{Create, Request, Subscribe, Read, Put, On, Update, Told, Circuit}
 use Rattle.ca_model.specs.History.{Entry, Added, Applied, Removed, Line, Called, Noticed, Opened}
-use Rattle.ca_model.specs.History.{Updated, World}
+use Rattle.ca_model.specs.History.{ToRead, ToWatch, ToWrite, Updated, World}
 use Rattle.ca_model.specs.Updates.{Shows}
 use Rattle.ca_model.specs.Headline.{Sees}
 use Rattle.ca_model_examples.specs.Worlds.{AnyDue, adding, circuit, clearing, created_told}
@@ -33,9 +33,9 @@ used =
 abbrev pub used_lines : List Line
 used_lines =
     Opened 0 temp_name ∷ Noticed (On 0 Create) outcome.Done ∷ Called (On 0 (Request Put 0))
-    (Some (longs (pos 22 ∷ [])))
-    ∷ Called (On 0 (Request Read 1)) None ∷ Called (On 0 (Subscribe 0)) None ∷ Noticed
-    (On 0 (Request Put 0)) outcome.Done ∷ []
+    (ToWrite (longs (pos 22 ∷ [])))
+    ∷ Called (On 0 (Request Read 1)) (ToRead 5 1) ∷ Called (On 0 (Subscribe 0)) (ToWatch 5 1 1)
+    ∷ Noticed (On 0 (Request Put 0)) outcome.Done ∷ []
 
 abbrev pub used_entries : List Entry
 used_entries = Added 0 temp ∷ Applied 0 1 0 (long 22) false ∷ []
@@ -106,7 +106,7 @@ reopened =
 abbrev pub reopened_lines : Outcome → List Line
 reopened_lines o =
     Opened 0 temp_name ∷ Noticed (On 0 Create) outcome.Done ∷ Called
-    (On 0 (Subscribe 0)) None ∷ Updated (On 0 (Subscribe 0)) o
+    (On 0 (Subscribe 0)) (ToWatch 5 1 1) ∷ Updated (On 0 (Subscribe 0)) o
     ∷ Noticed (On 0 Create) outcome.Disconnected ∷ Noticed (On 0 Create) outcome.Done ∷ []
 
 -- TEMP is 5 when it is added again.

@@ -1,6 +1,6 @@
 -- Vocabulary: small histories, of which each breaks one part of what is safe and no other, beside
 -- safe ones that differ in one place.
-use Rattle.std.specs.Prelude.{ℕ, Bool, true, false, pos, List, [], ◌∷◌, Some, None}
+use Rattle.std.specs.Prelude.{ℕ, Bool, true, false, pos, List, [], ◌∷◌}
 use Rattle.ca_text.specs.declared.command.Command.TheVariants as command
 use Rattle.ca_text.specs.Status.{bad_channel, normal}
 use Rattle.ca_dbr.specs.declared.value.Outcome.{Outcome}
@@ -16,7 +16,7 @@ use Rattle.ca_model.specs.Events as event
 use Rattle.ca_model.specs.History.{Cancel, Cause, Removal, Create, Posted, Request, Subscribe}
 use Rattle.ca_model.specs.History.{Update, Updated, Read, Put, On, OfCircuit, Sent, Told, Step}
 use Rattle.ca_model.specs.History.{Circuit, Entry, Added, Removed, Waits, Applied, Finished}
-use Rattle.ca_model.specs.History.{Line, Opened, Called, Noticed, World}
+use Rattle.ca_model.specs.History.{Line, Opened, Called, Noticed, ToRead, ToWrite, World}
 use Rattle.ca_model.specs.World.{ServerSetting, Setting}
 use Rattle.ca_model_examples.specs.Worlds.{adding, alarmed, circuit, created_told, creating, long}
 use Rattle.ca_model_examples.specs.Worlds.{putting, reading, reply, step, temp, temp_name, wanted}
@@ -46,7 +46,7 @@ unread up x = world (circuit up [] [] [] ∷ []) x temp_there
 
 -- A read was called.
 abbrev pub read_called : List Line
-read_called = Opened 0 temp_name ∷ Called (On 0 (Request Read 0)) None ∷ []
+read_called = Opened 0 temp_name ∷ Called (On 0 (Request Read 0)) (ToRead 5 1) ∷ []
 
 -- a WRITE that was meant as that read
 abbrev pub misasked : Sent
@@ -60,7 +60,7 @@ misasked =
 abbrev pub disconnected : List Line → World
 disconnected more =
     world (record (circuit (reading 0 7 ∷ []) [] [] []) { client_open = false } ∷ [])
-    (Opened 0 temp_name ∷ Called (On 0 (Request Read 0)) None ∷ more) temp_there
+    (Opened 0 temp_name ∷ Called (On 0 (Request Read 0)) (ToRead 5 1) ∷ more) temp_there
 
 abbrev pub read_lost : Line
 read_lost = Noticed (On 0 (Request Read 0)) outcome.Disconnected
@@ -69,7 +69,8 @@ read_lost = Noticed (On 0 (Request Read 0)) outcome.Disconnected
 
 -- A put of 22 was called.
 abbrev pub put_called : List Line
-put_called = Opened 0 temp_name ∷ Called (On 0 (Request Put 0)) (Some (longs (pos 22 ∷ []))) ∷ []
+put_called =
+    Opened 0 temp_name ∷ Called (On 0 (Request Put 0)) (ToWrite (longs (pos 22 ∷ []))) ∷ []
 
 -- The server's end closed as it handled the put.
 abbrev pub closing : Circuit
@@ -100,8 +101,8 @@ two_of_a_name = Added 0 temp ∷ Added 1 temp ∷ []
 
 abbrev pub called_again : List Line
 called_again =
-    Opened 0 temp_name ∷ Called (On 0 (Request Read 0)) None ∷ Called
-    (On 0 (Request Read 0)) None ∷ []
+    Opened 0 temp_name ∷ Called (On 0 (Request Read 0)) (ToRead 5 1) ∷ Called
+    (On 0 (Request Read 0)) (ToRead 5 1) ∷ []
 
 abbrev pub made_once : List Entry
 made_once = Added 0 temp ∷ made ∷ []
@@ -234,7 +235,7 @@ put_read m after =
 
 abbrev pub put_told : Outcome → List Line
 put_told o =
-    Opened 0 temp_name ∷ Called (On 0 (Request Put 0)) (Some (longs (pos 22 ∷ []))) ∷ Noticed
+    Opened 0 temp_name ∷ Called (On 0 (Request Put 0)) (ToWrite (longs (pos 22 ∷ []))) ∷ Noticed
     (On 0 (Request Put 0)) o ∷ []
 
 abbrev pub put_made : List Entry

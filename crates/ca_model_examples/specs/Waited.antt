@@ -1,10 +1,10 @@
 -- Vocabulary: a put that waits while its client begins again.
-use Rattle.std.specs.Prelude.{[], ◌∷◌, List, Some, pos, true, false}
+use Rattle.std.specs.Prelude.{[], ◌∷◌, List, pos, true, false}
 use Rattle.ca_dbr.specs.declared.value.Outcome.TheVariants as outcome
 use Rattle.ca_dbr.specs.Elements.{longs}
 use Rattle.ca_records.specs.Record.{RecordState}
 use Rattle.ca_model.specs.History.{Create, Request, Put, On, Circuit, Entry, Added, Waits, Applied}
-use Rattle.ca_model.specs.History.{Finished, Line, Called, Noticed, Opened, World}
+use Rattle.ca_model.specs.History.{Finished, Line, Called, Noticed, Opened, ToWrite, World}
 use Rattle.ca_model_examples.specs.Worlds.{circuit, created_told, creating, long, put_told, putting}
 use Rattle.ca_model_examples.specs.Worlds.{rights_told, step, temp, temp_name}
 
@@ -25,8 +25,8 @@ waited =
 abbrev pub waited_lines : List Line
 waited_lines =
     Opened 0 temp_name ∷ Noticed (On 0 Create) outcome.Done ∷ Called (On 0 (Request Put 0))
-    (Some (longs (pos 22 ∷ [])))
-    ∷ Called (On 0 (Request Put 1)) (Some (longs (pos 23 ∷ []))) ∷ []
+    (ToWrite (longs (pos 22 ∷ [])))
+    ∷ Called (On 0 (Request Put 1)) (ToWrite (longs (pos 23 ∷ []))) ∷ []
 
 -- The first put is finished, and then the second is applied.
 abbrev pub waited_entries : List Entry

@@ -1,10 +1,10 @@
 //! What an end may not send: each history breaks one part of what is legal, beside a legal one that
 //! differs in one place (`specs/Illegal.antt`).
 ghost use Rattle.std.specs.Prelude.{◌∷◌, [], false, true};
-ghost use Rattle.ca_model.specs.History.{Opened, World};
+ghost use Rattle.ca_model.specs.History.{Nothing, Opened, ToRead, ToWatch, World};
 ghost use Rattle.ca_model.specs.Legal.{Legal};
 ghost use Rattle.ca_model_examples.specs.Worlds.{putting, clearing, adding, created_told};
-ghost use Rattle.ca_model_examples.specs.Worlds.{creating, disconnected, step, world};
+ghost use Rattle.ca_model_examples.specs.Worlds.{creating, disconnected, reading, step, world};
 ghost use Rattle.ca_model_examples.specs.Parts.{Anew, Apart, Cancels, Confirmations, Disconnects};
 ghost use Rattle.ca_model_examples.specs.Parts.{Ended, HasAdd, HasCall, Ids, MaySend, OnChannel};
 ghost use Rattle.ca_model_examples.specs.Parts.{IdsApart, Sending};
@@ -17,7 +17,7 @@ ghost use Rattle.ca_model_examples.specs.Illegal.{confirm_out, created_read, wri
 ghost use Rattle.ca_model_examples.specs.Illegal.{goes_out, live_again, read_out, reads_out, alone};
 ghost use Rattle.ca_model_examples.specs.Illegal.{writing, unasked, sent_in, subscribed_in};
 ghost use Rattle.ca_model_examples.specs.Illegal.{added_after, asked_after, refused_out};
-ghost use Rattle.ca_model_examples.specs.Illegal.{two_circuits};
+ghost use Rattle.ca_model_examples.specs.Illegal.{read_for, two_circuits, watch_for};
 ghost use Rattle.ca_model_examples.specs.Illegal.{told_closed, told_so, uncalled_in, update_out};
 
 /// The parts are those of what is legal, and no more.
@@ -68,6 +68,25 @@ pub fn what_goes_out_was_called()
     ensures create { Legal (called_in opened (alone creating)) }
     ensures create_under_another_name { SendsWrong HasCall
         (called_in (Opened 0 (84 ∷ []) ∷ []) (alone creating)) }
+{}
+
+/// A read goes out for the type and the count that its call asked for, and a subscription also by
+/// its mask.
+pub fn what_goes_out_asks_for_what_its_call_did()
+    ensures read { Legal (called_in (read_for (ToRead 5 1)) (goes_out (reading 0 7 ∷ []))) }
+    ensures read_of_another_type { SendsWrong HasCall
+        (called_in (read_for (ToRead 6 1)) (goes_out (reading 0 7 ∷ []))) }
+    ensures read_of_another_count { SendsWrong HasCall
+        (called_in (read_for (ToRead 5 2)) (goes_out (reading 0 7 ∷ []))) }
+    ensures read_for_nothing { SendsWrong HasCall
+        (called_in (read_for Nothing) (goes_out (reading 0 7 ∷ []))) }
+    ensures add { Legal (called_in (watch_for (ToWatch 5 1 1)) (goes_out (adding 0 9 ∷ []))) }
+    ensures add_of_another_type { SendsWrong HasCall
+        (called_in (watch_for (ToWatch 6 1 1)) (goes_out (adding 0 9 ∷ []))) }
+    ensures add_of_another_count { SendsWrong HasCall
+        (called_in (watch_for (ToWatch 5 2 1)) (goes_out (adding 0 9 ∷ []))) }
+    ensures add_by_another_mask { SendsWrong HasCall
+        (called_in (watch_for (ToWatch 5 1 4)) (goes_out (adding 0 9 ∷ []))) }
 {}
 
 /// Two ids of one index are not in use on two circuits of one client whose ends there are open.

@@ -1,5 +1,5 @@
 -- Reads, puts and subscriptions of a client, from what its parts became.
-use Rattle.std.proofs.Common.{◌≡◌, ℕ, inr, List, [], ◌∷◌, length, Result, Ok, Err, None, refl, sym, ap, subst, ◌∙◌}
+use Rattle.std.proofs.Common.{◌≡◌, ℕ, inr, List, [], ◌∷◌, Result, Ok, Err, refl, sym, ap, subst, ◌∙◌}
 use Rattle.std.specs.Prelude.{map}
 use Rattle.ca_arena.specs.declared.handle.Handle.{Handle}
 use Rattle.ca_ids.specs.Wire.{wire_of}
@@ -11,7 +11,7 @@ use Rattle.ca_model.specs.Answers.{Sending}
 use Rattle.ca_model.specs.Answers as aim
 use Rattle.ca_model.specs.Client.{Client}
 use Rattle.ca_model.specs.ClientCalls.{ClientReads, LiveChannel, Shape, read_sent}
-use Rattle.ca_model.specs.History.{Called, Intent, Line, On, Request}
+use Rattle.ca_model.specs.History.{Called, Intent, Line}
 use Rattle.ca_model.specs.History as history
 use Rattle.ca_model.specs.ClientEvents.{intent_of}
 use Rattle.ca_model.specs.Events.{Read}
@@ -24,7 +24,7 @@ use Rattle.ca_world_data.specs.declared.way.ChannelRoute.{ChannelRoute}
 use Rattle.ca_world_data.specs.Found.{AreNumbered}
 use Rattle.ca_world_data.specs.Indexed.{AreIndexed}
 use Rattle.ca_world_data.specs.Logs.{Notes}
-use Rattle.ca_world_data.specs.Reads.{ReadsOn, read_names}
+use Rattle.ca_world_data.specs.Reads.{ReadsOn, read_meant, read_names}
 use Rattle.ca_world_data.specs.Speaking.{GoesUp, IsWay, sent_up, stamped}
 use Rattle.ca_world_data.specs.Does.{Does}
 use Rattle.ca_world_data.proofs.Sendings.{sent-by}
@@ -34,14 +34,14 @@ use Rattle.ca_world.proofs.Speeches.{call-noted, calls-keep, calls-ok, no-channe
 pub reads-done : (i c : ℕ) (a : Shape) (x x' : ClientSide) (logs logs' : List (List Line)) (ks ks' : List Joined) (h q : Handle) (way : ChannelRoute) (numbers : List ℕ) (sent : List Sending) (u : Unit {0})
     → At x.names.channels c h → AreGiven x.names.requests x.core.requests → IsWay x.core ks i h way → AreNumbered numbers ks i → ClientReads x.core h a (Ok q) sent x'.core
     → x' ≡ record x { core = x'.core; names = read_names c x q }
-    → logs' ≡ grown x.life (Called (On c (Request history.Read (length x.names.requests))) None ∷ []) logs
-    → GoesUp way.circuit (record { message = read_request (record { sid = way.sid; id = wire_of q; data_type = a.data_type; count = a.count }); intent = On c (Request history.Read (length x.names.requests)) }) ks ks'
+    → logs' ≡ grown x.life (Called (read_meant c x) (history.ToRead a.data_type a.count) ∷ []) logs
+    → GoesUp way.circuit (record { message = read_request (record { sid = way.sid; id = wire_of q; data_type = a.data_type; count = a.count }); intent = read_meant c x }) ks ks'
     → ReadsOn i c a x logs ks (Ok u) x' logs' ks'
 reads-done i c a x x' logs logs' ks ks' h q way numbers sent u named given is_way numbered reads side logged up =
     let l : LiveChannel = reads.0 in
     let w = is_way l reads.1 in
     let names : Names = read_names c x q in
-    let intent : Intent = On c (Request history.Read (length x.names.requests)) in
+    let intent : Intent = read_meant c x in
     let s : Sending = read_sent h l a q in
     let meant : intent_of names (aim.Read h q) ≡ intent = meant-own x.names.requests q intent (new-name x.names.requests x.core.requests q given reads.3) in
     let is : record { message = read_request (record { sid = way.sid; id = wire_of q; data_type = a.data_type; count = a.count }); intent = intent } ≡ stamped names s =
@@ -60,7 +60,7 @@ pub reads-noted : (i c : ℕ) (a : Shape) (x x' : ClientSide) (logs logs' : List
 reads-noted i c a x x' logs logs' ks h e sent core r named is side n =
     let same = read-refused x.core h a e sent core is in
     let names : Handle → Handle → Names = λ g q. read_names c x q in
-    call-noted i (At x.names.channels c) (λ g. ClientReads x.core g a) names names (λ g q. Called (On c (Request history.Read (length x.names.requests))) None ∷ []) x x' logs logs' ks ks h e r named
+    call-noted i (At x.names.channels c) (λ g. ClientReads x.core g a) names names (λ g q. Called (read_meant c x) (history.ToRead a.data_type a.count) ∷ []) x x' logs logs' ks ks h e r named
     (subst (λ (z : List Sending × Client). ClientReads x.core h a (Err e) z.0 z.1) (λ t. (same.0 t, same.1 t)) is)
     (side ∙ ap (λ (z : Client). record x { core = z }) same.1)
     refl
@@ -76,7 +76,7 @@ pub reads-does : (w : model.World) (i c : ℕ) (a : Shape) (x x' : ClientSide) (
     → Does w (Read i c a.data_type a.count) r (spoken_in i x' logs ks w)
 reads-does w i c a x x' logs ks (Ok u) at d =
     let names : Handle → Handle → Names = λ h q. read_names c x q in
-    let o = calls-ok i (At x.names.channels c) (λ h. ClientReads x.core h a) names names (λ h q. Called (On c (Request history.Read (length x.names.requests))) None ∷ []) w x x' logs ks at u d in
+    let o = calls-ok i (At x.names.channels c) (λ h. ClientReads x.core h a) names names (λ h q. Called (read_meant c x) (history.ToRead a.data_type a.count) ∷ []) w x x' logs ks at u d in
     (record { x = x; at = at; h = o.0; named = o.1 }, o.2)
 reads-does w i c a x x' logs ks (Err OutOfMemory) at d = (record { x = x; at = at; h = d.0; named = d.1 }, spoken-same i x x' logs ks w at d.2 d.3 d.4)
 reads-does w i c a x x' logs ks (Err BadEvent) at d = (no-channel w i c x at d.0, spoken-same i x x' logs ks w at d.1 d.2 d.3)
@@ -86,4 +86,4 @@ reads-does w i c a x x' logs ks (Err _) at d = absurd d
 pub reads-keep : (i c : ℕ) (a : Shape) (x x' : ClientSide) (logs logs' : List (List Line)) (ks ks' : List Joined) (r : Result (Unit {0}) Refusal) → ReadsOn i c a x logs ks r x' logs' ks' → (cs ss : List (List ℕ)) → AreIndexed cs ss ks → AreIndexed cs ss ks'
 reads-keep i c a x x' logs logs' ks ks' r d =
     let names : Handle → Handle → Names = λ h q. read_names c x q in
-    calls-keep i (At x.names.channels c) (λ h. ClientReads x.core h a) names names (λ h q. Called (On c (Request history.Read (length x.names.requests))) None ∷ []) x x' logs logs' ks ks' r d
+    calls-keep i (At x.names.channels c) (λ h. ClientReads x.core h a) names names (λ h q. Called (read_meant c x) (history.ToRead a.data_type a.count) ∷ []) x x' logs logs' ks ks' r d

@@ -76,7 +76,7 @@ cancel-goes i n s d ks ks' numbers w (Some (On c Doomed)) numbered here mean goe
 pub unsubscribes-done : (i n : ℕ) (x x' : ClientSide) (logs logs' : List (List Line)) (ks ks' : List Joined) (s : Handle × Intent) (w : Cancelling) (numbers : List ℕ) (sent : List Sending) (u : Unit {0})
     → At x.names.subscriptions n s → w.handle ≡ s.0 → meant_by x.names.subscriptions s.0 ≡ s.1 → IsCancelWay x.core ks i w → AreNumbered numbers ks i → ClientUnsubscribes x.core s.0 (Ok tt) sent x'.core
     → x' ≡ record x { core = x'.core }
-    → logs' ≡ grown x.life (Called (cancelled s.1) None ∷ []) logs
+    → logs' ≡ grown x.life (Called (cancelled s.1) history.Nothing ∷ []) logs
     → GoesUp w.circuit (record { message = event_cancel_request w.wanted; intent = cancelled s.1 }) ks ks'
     → UnsubscribesOn i n x logs ks (Ok u) x' logs' ks'
 unsubscribes-done i n x x' logs logs' ks ks' s w numbers sent u named here mean way numbered does side logged up =
@@ -97,7 +97,7 @@ pub unsubscribes-noted : (i n : ℕ) (x x' : ClientSide) (logs logs' : List (Lis
 unsubscribes-noted i n x x' logs logs' ks s e sent core r named is side notes =
     let same = unsubscribe-refused x.core s.0 e sent core is in
     let names : Handle × Intent → Unit {0} → Names = λ g u. x.names in
-    call-noted i (At x.names.subscriptions n) (λ g. ClientUnsubscribes x.core g.0) names names (λ g u. Called (cancelled g.1) None ∷ []) x x' logs logs' ks ks s e r named
+    call-noted i (At x.names.subscriptions n) (λ g. ClientUnsubscribes x.core g.0) names names (λ g u. Called (cancelled g.1) history.Nothing ∷ []) x x' logs logs' ks ks s e r named
     (subst (λ (z : List Sending × Client). ClientUnsubscribes x.core s.0 (Err e) z.0 z.1) (λ t. (same.0 t, same.1 t)) is)
     (side ∙ ap (λ (z : Client). record x { core = z }) same.1)
     refl
@@ -119,7 +119,7 @@ pub unsubscribes-does : (w : model.World) (i n : ℕ) (x x' : ClientSide) (logs 
     → Does w (Unsubscribe i n) r (spoken_in i x' logs ks w)
 unsubscribes-does w i n x x' logs ks (Ok u) at d =
     let names : Handle × Intent → Unit {0} → Names = λ g u. x.names in
-    let o = calls-ok i (At x.names.subscriptions n) (λ g. ClientUnsubscribes x.core g.0) names names (λ g u. Called (cancelled g.1) None ∷ []) w x x' logs ks at u d in
+    let o = calls-ok i (At x.names.subscriptions n) (λ g. ClientUnsubscribes x.core g.0) names names (λ g u. Called (cancelled g.1) history.Nothing ∷ []) w x x' logs ks at u d in
     (record { x = x; at = at; s = o.0; named = o.1 }, o.2)
 unsubscribes-does w i n x x' logs ks (Err OutOfMemory) at d = (record { x = x; at = at; s = d.0; named = d.1 }, spoken-same i x x' logs ks w at d.2 d.3 d.4)
 unsubscribes-does w i n x x' logs ks (Err BadEvent) at d = (no-subscription w i n x at d.0, spoken-same i x x' logs ks w at d.1 d.2 d.3)
@@ -129,7 +129,7 @@ unsubscribes-does w i n x x' logs ks (Err _) at d = absurd d
 pub unsubscribes-keep : (i n : ℕ) (x x' : ClientSide) (logs logs' : List (List Line)) (ks ks' : List Joined) (r : Result (Unit {0}) Refusal) → UnsubscribesOn i n x logs ks r x' logs' ks' → (cs ss : List (List ℕ)) → AreIndexed cs ss ks → AreIndexed cs ss ks'
 unsubscribes-keep i n x x' logs logs' ks ks' r d =
     let names : Handle × Intent → Unit {0} → Names = λ g u. x.names in
-    calls-keep i (At x.names.subscriptions n) (λ g. ClientUnsubscribes x.core g.0) names names (λ g u. Called (cancelled g.1) None ∷ []) x x' logs logs' ks ks' r d
+    calls-keep i (At x.names.subscriptions n) (λ g. ClientUnsubscribes x.core g.0) names names (λ g u. Called (cancelled g.1) history.Nothing ∷ []) x x' logs logs' ks ks' r d
 
 -- it has no number, or there is no memory
 pub unsubscribes-unready : (i n : ℕ) (x : real.ClientSide) (logs : List (List Line)) (ks : List Joined) (e : Refusal) → IsUnready n x e → UnsubscribesOn i n (client_of x) logs ks (Err e) (client_of x) logs ks

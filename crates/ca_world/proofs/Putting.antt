@@ -1,5 +1,5 @@
 -- Puts with notification of a client, from what its parts became.
-use Rattle.std.proofs.Common.{◌≡◌, ℕ, inr, List, [], ◌∷◌, Result, Ok, Err, Some, refl, sym, ap, subst, ◌∙◌}
+use Rattle.std.proofs.Common.{◌≡◌, ℕ, inr, List, [], ◌∷◌, Result, Ok, Err, refl, sym, ap, subst, ◌∙◌}
 use Rattle.std.specs.Prelude.{map}
 use Rattle.ca_arena.specs.declared.handle.Handle.{Handle}
 use Rattle.ca_ids.specs.Wire.{wire_of}
@@ -37,7 +37,7 @@ use Rattle.ca_world.proofs.Speeches.{call-noted, calls-keep, calls-ok, no-channe
 pub puts-done : (i c : ℕ) (a : Elements) (x x' : ClientSide) (logs logs' : List (List Line)) (ks ks' : List Joined) (h q : Handle) (way : ChannelRoute) (numbers : List ℕ) (sent : List Sending) (u : Unit {0})
     → At x.names.channels c h → AreGiven x.names.requests x.core.requests → IsWay x.core ks i h way → AreNumbered numbers ks i → ClientPuts x.core h a (Ok q) sent x'.core
     → x' ≡ record x { core = x'.core; names = put_names c x q }
-    → logs' ≡ grown x.life (Called (put_meant c x) (Some a) ∷ []) logs
+    → logs' ≡ grown x.life (Called (put_meant c x) (history.ToWrite a) ∷ []) logs
     → GoesUp way.circuit (record { message = put_request command.WriteNotify (record { sid = way.sid; id = wire_of q; data_type = base_number (base_of a); count = count_of a }) (bytes_of a); intent = put_meant c x }) ks ks'
     → PutsOn i c a x logs ks (Ok u) x' logs' ks'
 puts-done i c a x x' logs logs' ks ks' h q way numbers sent u named given is_way numbered reads side logged up =
@@ -63,7 +63,7 @@ pub puts-noted : (i c : ℕ) (a : Elements) (x x' : ClientSide) (logs logs' : Li
 puts-noted i c a x x' logs logs' ks h e sent core r named is side n =
     let same = puts-refused x.core h a e sent core is in
     let names : Handle → Handle → Names = λ g q. put_names c x q in
-    call-noted i (At x.names.channels c) (λ g. ClientPuts x.core g a) names names (λ g q. Called (put_meant c x) (Some a) ∷ []) x x' logs logs' ks ks h e r named
+    call-noted i (At x.names.channels c) (λ g. ClientPuts x.core g a) names names (λ g q. Called (put_meant c x) (history.ToWrite a) ∷ []) x x' logs logs' ks ks h e r named
     (subst (λ (z : List Sending × Client). ClientPuts x.core h a (Err e) z.0 z.1) (λ t. (same.0 t, same.1 t)) is)
     (side ∙ ap (λ (z : Client). record x { core = z }) same.1)
     refl
@@ -79,7 +79,7 @@ pub puts-does : (w : model.World) (i c : ℕ) (a : Elements) (x x' : ClientSide)
     → Does w (WriteNotify i c a) r (spoken_in i x' logs ks w)
 puts-does w i c a x x' logs ks (Ok u) at d =
     let names : Handle → Handle → Names = λ h q. put_names c x q in
-    let o = calls-ok i (At x.names.channels c) (λ h. ClientPuts x.core h a) names names (λ h q. Called (put_meant c x) (Some a) ∷ []) w x x' logs ks at u d in
+    let o = calls-ok i (At x.names.channels c) (λ h. ClientPuts x.core h a) names names (λ h q. Called (put_meant c x) (history.ToWrite a) ∷ []) w x x' logs ks at u d in
     (record { x = x; at = at; h = o.0; named = o.1 }, o.2)
 puts-does w i c a x x' logs ks (Err OutOfMemory) at d = (record { x = x; at = at; h = d.0; named = d.1 }, spoken-same i x x' logs ks w at d.2 d.3 d.4)
 puts-does w i c a x x' logs ks (Err BadEvent) at d = (no-channel w i c x at d.0, spoken-same i x x' logs ks w at d.1 d.2 d.3)
@@ -89,4 +89,4 @@ puts-does w i c a x x' logs ks (Err _) at d = absurd d
 pub puts-keep : (i c : ℕ) (a : Elements) (x x' : ClientSide) (logs logs' : List (List Line)) (ks ks' : List Joined) (r : Result (Unit {0}) Refusal) → PutsOn i c a x logs ks r x' logs' ks' → (cs ss : List (List ℕ)) → AreIndexed cs ss ks → AreIndexed cs ss ks'
 puts-keep i c a x x' logs logs' ks ks' r d =
     let names : Handle → Handle → Names = λ h q. put_names c x q in
-    calls-keep i (At x.names.channels c) (λ h. ClientPuts x.core h a) names names (λ h q. Called (put_meant c x) (Some a) ∷ []) x x' logs logs' ks ks' r d
+    calls-keep i (At x.names.channels c) (λ h. ClientPuts x.core h a) names names (λ h q. Called (put_meant c x) (history.ToWrite a) ∷ []) x x' logs logs' ks ks' r d

@@ -1,5 +1,5 @@
 -- Subscriptions of a client, from what its parts became.
-use Rattle.std.proofs.Common.{◌≡◌, ℕ, inr, List, [], ◌∷◌, Result, Ok, Err, None, refl, sym, ap, subst, ◌∙◌}
+use Rattle.std.proofs.Common.{◌≡◌, ℕ, inr, List, [], ◌∷◌, Result, Ok, Err, refl, sym, ap, subst, ◌∙◌}
 use Rattle.std.specs.Prelude.{map}
 use Rattle.ca_arena.specs.declared.handle.Handle.{Handle}
 use Rattle.ca_ids.specs.Wire.{wire_of}
@@ -34,7 +34,7 @@ use Rattle.ca_world.proofs.Speeches.{call-noted, calls-keep, calls-ok, no-channe
 pub subscribes-done : (i c : ℕ) (a : Shape) (mask : ℕ) (x x' : ClientSide) (logs logs' : List (List Line)) (ks ks' : List Joined) (h q : Handle) (way : ChannelRoute) (numbers : List ℕ) (sent : List Sending) (u : Unit {0})
     → At x.names.channels c h → AreGiven x.names.subscriptions x.core.subscriptions → IsWay x.core ks i h way → AreNumbered numbers ks i → ClientSubscribes x.core h a mask (Ok q) sent x'.core
     → x' ≡ record x { core = x'.core; names = subscribe_names c x q }
-    → logs' ≡ grown x.life (Called (next_meant c x) None ∷ []) logs
+    → logs' ≡ grown x.life (Called (next_meant c x) (history.ToWatch a.data_type a.count mask) ∷ []) logs
     → GoesUp way.circuit (record { message = event_add_request (record { sid = way.sid; id = wire_of q; data_type = a.data_type; count = a.count }) mask; intent = next_meant c x }) ks ks'
     → SubscribesOn i c a mask x logs ks (Ok u) x' logs' ks'
 subscribes-done i c a mask x x' logs logs' ks ks' h q way numbers sent u named given is_way numbered reads side logged up =
@@ -60,7 +60,7 @@ pub subscribes-noted : (i c : ℕ) (a : Shape) (mask : ℕ) (x x' : ClientSide) 
 subscribes-noted i c a mask x x' logs logs' ks h e sent core r named is side n =
     let same = subscribe-refused x.core h a mask e sent core is in
     let names : Handle → Handle → Names = λ g q. subscribe_names c x q in
-    call-noted i (At x.names.channels c) (λ g. ClientSubscribes x.core g a mask) names names (λ g q. Called (next_meant c x) None ∷ []) x x' logs logs' ks ks h e r named
+    call-noted i (At x.names.channels c) (λ g. ClientSubscribes x.core g a mask) names names (λ g q. Called (next_meant c x) (history.ToWatch a.data_type a.count mask) ∷ []) x x' logs logs' ks ks h e r named
     (subst (λ (z : List Sending × Client). ClientSubscribes x.core h a mask (Err e) z.0 z.1) (λ t. (same.0 t, same.1 t)) is)
     (side ∙ ap (λ (z : Client). record x { core = z }) same.1)
     refl
@@ -76,7 +76,7 @@ pub subscribes-does : (w : model.World) (i c : ℕ) (a : Shape) (mask : ℕ) (x 
     → Does w (Subscribe i c a.data_type a.count mask) r (spoken_in i x' logs ks w)
 subscribes-does w i c a mask x x' logs ks (Ok u) at d =
     let names : Handle → Handle → Names = λ h q. subscribe_names c x q in
-    let o = calls-ok i (At x.names.channels c) (λ h. ClientSubscribes x.core h a mask) names names (λ h q. Called (next_meant c x) None ∷ []) w x x' logs ks at u d in
+    let o = calls-ok i (At x.names.channels c) (λ h. ClientSubscribes x.core h a mask) names names (λ h q. Called (next_meant c x) (history.ToWatch a.data_type a.count mask) ∷ []) w x x' logs ks at u d in
     (record { x = x; at = at; h = o.0; named = o.1 }, o.2)
 subscribes-does w i c a mask x x' logs ks (Err OutOfMemory) at d = (record { x = x; at = at; h = d.0; named = d.1 }, spoken-same i x x' logs ks w at d.2 d.3 d.4)
 subscribes-does w i c a mask x x' logs ks (Err BadEvent) at d = (no-channel w i c x at d.0, spoken-same i x x' logs ks w at d.1 d.2 d.3)
@@ -86,4 +86,4 @@ subscribes-does w i c a mask x x' logs ks (Err _) at d = absurd d
 pub subscribes-keep : (i c : ℕ) (a : Shape) (mask : ℕ) (x x' : ClientSide) (logs logs' : List (List Line)) (ks ks' : List Joined) (r : Result (Unit {0}) Refusal) → SubscribesOn i c a mask x logs ks r x' logs' ks' → (cs ss : List (List ℕ)) → AreIndexed cs ss ks → AreIndexed cs ss ks'
 subscribes-keep i c a mask x x' logs logs' ks ks' r d =
     let names : Handle → Handle → Names = λ h q. subscribe_names c x q in
-    calls-keep i (At x.names.channels c) (λ h. ClientSubscribes x.core h a mask) names names (λ h q. Called (next_meant c x) None ∷ []) x x' logs logs' ks ks' r d
+    calls-keep i (At x.names.channels c) (λ h. ClientSubscribes x.core h a mask) names names (λ h q. Called (next_meant c x) (history.ToWatch a.data_type a.count mask) ∷ []) x x' logs logs' ks ks' r d

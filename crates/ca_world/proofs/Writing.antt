@@ -1,5 +1,5 @@
 -- Plain writes of a client, from what its parts became.
-use Rattle.std.proofs.Common.{◌≡◌, ℕ, inr, List, [], ◌∷◌, Result, Ok, Err, Some, refl, sym, ap, subst, ◌∙◌}
+use Rattle.std.proofs.Common.{◌≡◌, ℕ, inr, List, [], ◌∷◌, Result, Ok, Err, refl, sym, ap, subst, ◌∙◌}
 use Rattle.std.specs.Prelude.{map}
 use Rattle.ca_arena.specs.declared.handle.Handle.{Handle}
 use Rattle.ca_text.specs.declared.refusal.Refusal.{Refusal}
@@ -31,7 +31,7 @@ use Rattle.ca_world.proofs.Speeches.{call-noted, calls-keep, calls-ok, no-channe
 pub writes-done : (i c : ℕ) (a : Elements) (x x' : ClientSide) (logs logs' : List (List Line)) (ks ks' : List Joined) (h : Handle) (way : ChannelRoute) (numbers : List ℕ) (sent : List Sending) (u : Unit {0})
     → At x.names.channels c h → AreOnce x.names → IsWay x.core ks i h way → AreNumbered numbers ks i → ClientWrites x.core h a (Ok tt) sent x'.core
     → x' ≡ record x { core = x'.core; names = write_names x }
-    → logs' ≡ grown x.life (Called (write_meant c x) (Some a) ∷ []) logs
+    → logs' ≡ grown x.life (Called (write_meant c x) (history.ToWrite a) ∷ []) logs
     → GoesUp way.circuit (record { message = put_request command.Write (record { sid = way.sid; id = 0; data_type = base_number (base_of a); count = count_of a }) (bytes_of a); intent = write_meant c x }) ks ks'
     → WritesOn i c a x logs ks (Ok u) x' logs' ks'
 writes-done i c a x x' logs logs' ks ks' h way numbers sent u named once is_way numbered reads side logged up =
@@ -57,7 +57,7 @@ writes-noted i c a x x' logs logs' ks h e sent core r named is side n =
     let same = writes-refused x.core h a e sent core is in
     let spoken : Handle → Unit {0} → Names = λ g u. x.names in
     let names : Handle → Unit {0} → Names = λ g u. write_names x in
-    call-noted i (At x.names.channels c) (λ g. ClientWrites x.core g a) spoken names (λ g u. Called (write_meant c x) (Some a) ∷ []) x x' logs logs' ks ks h e r named
+    call-noted i (At x.names.channels c) (λ g. ClientWrites x.core g a) spoken names (λ g u. Called (write_meant c x) (history.ToWrite a) ∷ []) x x' logs logs' ks ks h e r named
     (subst (λ (z : List Sending × Client). ClientWrites x.core h a (Err e) z.0 z.1) (λ t. (same.0 t, same.1 t)) is)
     (side ∙ ap (λ (z : Client). record x { core = z }) same.1)
     refl
@@ -74,7 +74,7 @@ pub writes-does : (w : model.World) (i c : ℕ) (a : Elements) (x x' : ClientSid
 writes-does w i c a x x' logs ks (Ok u) at d =
     let spoken : Handle → Unit {0} → Names = λ h u. x.names in
     let names : Handle → Unit {0} → Names = λ h u. write_names x in
-    let o = calls-ok i (At x.names.channels c) (λ h. ClientWrites x.core h a) spoken names (λ h u. Called (write_meant c x) (Some a) ∷ []) w x x' logs ks at u d in
+    let o = calls-ok i (At x.names.channels c) (λ h. ClientWrites x.core h a) spoken names (λ h u. Called (write_meant c x) (history.ToWrite a) ∷ []) w x x' logs ks at u d in
     (record { x = x; at = at; h = o.0; named = o.1 }, o.2)
 writes-does w i c a x x' logs ks (Err OutOfMemory) at d = (record { x = x; at = at; h = d.0; named = d.1 }, spoken-same i x x' logs ks w at d.2 d.3 d.4)
 writes-does w i c a x x' logs ks (Err BadEvent) at d = (no-channel w i c x at d.0, spoken-same i x x' logs ks w at d.1 d.2 d.3)
@@ -85,4 +85,4 @@ pub writes-keep : (i c : ℕ) (a : Elements) (x x' : ClientSide) (logs logs' : L
 writes-keep i c a x x' logs logs' ks ks' r d =
     let spoken : Handle → Unit {0} → Names = λ h u. x.names in
     let names : Handle → Unit {0} → Names = λ h u. write_names x in
-    calls-keep i (At x.names.channels c) (λ h. ClientWrites x.core h a) spoken names (λ h u. Called (write_meant c x) (Some a) ∷ []) x x' logs logs' ks ks' r d
+    calls-keep i (At x.names.channels c) (λ h. ClientWrites x.core h a) spoken names (λ h u. Called (write_meant c x) (history.ToWrite a) ∷ []) x x' logs logs' ks ks' r d

@@ -15,7 +15,7 @@ use ca_text::Refusal;
 use ca_wire::{Cid, Sid, clear_request};
 use ca_world_data::clearing::prepare_clear;
 use ca_world_data::client::ClientSide;
-use ca_world_data::history::{Ask, Intent, Line, Sent};
+use ca_world_data::history::{Ask, Intent, Line, Sent, Wish};
 use ca_world_data::joined::Joined;
 use ca_world_data::logs::note;
 use ca_world_data::telling::tell_call;
@@ -83,7 +83,7 @@ fn clear_on(
             tell_call(
                 logs,
                 side.life,
-                Line::Called(meant, None),
+                Line::Called(meant, Wish::Nothing),
                 &side.names,
                 notices,
             );

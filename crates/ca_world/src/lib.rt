@@ -40,7 +40,7 @@ mod write;
 mod write_notify;
 
 pub use ca_world_data::history::{
-    Ask, Cause, Intent, Kind, Line, LogEntry, Recorded, Sent, Step, Stored, Told,
+    Ask, Cause, Intent, Kind, Line, LogEntry, Recorded, Sent, Step, Stored, Told, Wish,
 };
 pub use ca_world_data::settings::{ClientSetting, RuleSetting, ServerSetting};
 pub use circuits::Way;

@@ -15,7 +15,7 @@ use crate::world::World;
 use ca_text::Refusal;
 use ca_wire::read_request;
 use ca_world_data::client::ClientSide;
-use ca_world_data::history::{Ask, Intent, Kind, Line, Sent};
+use ca_world_data::history::{Ask, Intent, Kind, Line, Sent, Wish};
 use ca_world_data::joined::Joined;
 use ca_world_data::logs::{note, push_line};
 use ca_world_data::way::{prepare, push_sent, wanted_on};
@@ -126,7 +126,11 @@ fn read_carried(
                     intent: meant,
                 },
             );
-            push_line(logs, side.life, Line::Called(meant, None));
+            push_line(
+                logs,
+                side.life,
+                Line::Called(meant, Wish::ToRead(data_type, count)),
+            );
             Ok(())
         }
         Err(refusal) => note(logs, side.life, refusal),

@@ -12,7 +12,7 @@ use crate::wide::{carried, refuse_wide};
 use crate::world::World;
 use ca_text::{Command, Mask, Refusal};
 use ca_world_data::client::ClientSide;
-use ca_world_data::history::{Ask, Intent, Line, Sent};
+use ca_world_data::history::{Ask, Intent, Line, Sent, Wish};
 use ca_world_data::joined::Joined;
 use ca_world_data::logs::{note, push_line};
 use ca_world_data::payloads::{mask_payload, with_payload};
@@ -138,7 +138,11 @@ fn subscribe_carried(
                     intent: meant,
                 },
             );
-            push_line(logs, side.life, Line::Called(meant, None));
+            push_line(
+                logs,
+                side.life,
+                Line::Called(meant, Wish::ToWatch(data_type, count, mask.bits())),
+            );
             Ok(())
         }
         Err(refusal) => note(logs, side.life, refusal),

@@ -14,7 +14,7 @@ use crate::world::World;
 use ca_dbr::Value;
 use ca_text::{Command, Refusal};
 use ca_world_data::client::ClientSide;
-use ca_world_data::history::{Ask, Intent, Kind, Line, Sent};
+use ca_world_data::history::{Ask, Intent, Kind, Line, Sent, Wish};
 use ca_world_data::joined::Joined;
 use ca_world_data::logs::{note, push_line};
 use ca_world_data::payloads::{count_within, put_payload, value_again, with_payload};
@@ -96,7 +96,7 @@ fn write_notify_on(
                     intent: meant,
                 },
             );
-            push_line(logs, side.life, Line::Called(meant, Some(own)));
+            push_line(logs, side.life, Line::Called(meant, Wish::ToWrite(own)));
             Ok(())
         }
         Err(refusal) => note(logs, side.life, refusal),

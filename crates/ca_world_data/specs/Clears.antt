@@ -42,7 +42,8 @@ pub record IsReadyToClear (i c : ℕ) (x : real.ClientSide) (ks : List Opened)
 
 -- to clear it is in the log, and then what that told
 abbrev pub clear_lines : (c : ℕ) → ClientSide → List Notice → List Line
-clear_lines c x notices = call_lines (Called (history.On c history.Clear) None) x.names notices
+clear_lines c x notices =
+    call_lines (Called (history.On c history.Clear) history.Nothing) x.names notices
 
 abbrev pub ClearsOn : (i c : ℕ) → ClientSide → List (List Line) → List Joined
     → Result (Unit {0}) Refusal → ClientSide → List (List Line) → List Joined → Type 0

@@ -1,5 +1,5 @@
 -- Working: a put with notification, and a plain write, of a client.
-use Rattle.std.specs.Prelude.{ℕ, ◌≡◌, ◌∷◌, ◌+◌, List, [], Some, Result, length}
+use Rattle.std.specs.Prelude.{ℕ, ◌≡◌, ◌∷◌, ◌+◌, List, [], Result, length}
 use Rattle.ca_arena.specs.declared.handle.Handle.{Handle}
 use Rattle.ca_dbr.specs.Elements.{Elements}
 use Rattle.ca_text.specs.declared.refusal.Refusal.{Refusal}
@@ -28,7 +28,7 @@ PutsOn i c a x logs ks result x' logs' ks' =
     (λ (h : Handle). ClientPuts x.core h a)
     (λ (h q : Handle). put_names c x q)
     (λ (h q : Handle). put_names c x q)
-    (λ (h q : Handle). Called (put_meant c x) (Some a) ∷ [])
+    (λ (h q : Handle). Called (put_meant c x) (history.ToWrite a) ∷ [])
     x logs ks result x' logs' ks'
 
 -- ---- without
@@ -52,5 +52,5 @@ WritesOn i c a x logs ks result x' logs' ks' =
     (λ (h : Handle). ClientWrites x.core h a)
     (λ (h : Handle) (u : Unit {0}). x.names)
     (λ (h : Handle) (u : Unit {0}). write_names x)
-    (λ (h : Handle) (u : Unit {0}). Called (write_meant c x) (Some a) ∷ [])
+    (λ (h : Handle) (u : Unit {0}). Called (write_meant c x) (history.ToWrite a) ∷ [])
     x logs ks result x' logs' ks'

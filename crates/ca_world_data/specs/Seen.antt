@@ -27,6 +27,8 @@ use Rattle.ca_world_data.specs.declared.history.Sent.{Sent}
 use Rattle.ca_world_data.specs.declared.history.Step.{Step}
 use Rattle.ca_world_data.specs.declared.history.Stored.{Stored}
 use Rattle.ca_world_data.specs.declared.history.Told.{Told}
+use Rattle.ca_world_data.specs.declared.history.Wish.{Wish}
+use Rattle.ca_world_data.specs.declared.history.Wish.TheVariants as wish
 use Rattle.ca_world_data.specs.declared.joined.CircuitHistory.{CircuitHistory}
 use Rattle.ca_world_data.specs.declared.joined.CreatedChannel.{CreatedChannel}
 use Rattle.ca_world_data.specs.declared.joined.Joined.{Joined}
@@ -80,9 +82,15 @@ recorded_of r =
       meta = r.meta;
     }
 
+abbrev pub wish_of : Wish → history.Wish
+wish_of wish.Nothing = history.Nothing
+wish_of (wish.ToRead data_type count) = history.ToRead data_type count
+wish_of (wish.ToWatch data_type count mask) = history.ToWatch data_type count mask
+wish_of (wish.ToWrite value) = history.ToWrite (elements value)
+
 abbrev pub line_of : Line → history.Line
 line_of (line.Opened channel name) = history.Opened channel name.items
-line_of (line.Called meant value) = history.Called (intent_of meant) (option_map elements value)
+line_of (line.Called meant asks) = history.Called (intent_of meant) (wish_of asks)
 line_of (line.Noticed meant outcome) = history.Noticed (intent_of meant) outcome
 line_of (line.Updated meant outcome) = history.Updated (intent_of meant) outcome
 line_of (line.Refused refusal) = history.Refused refusal

@@ -1,5 +1,5 @@
 -- Working: a subscription of a client.
-use Rattle.std.specs.Prelude.{ℕ, ◌∷◌, ◌++◌, List, [], None, Result, length}
+use Rattle.std.specs.Prelude.{ℕ, ◌∷◌, ◌++◌, List, [], Result, length}
 use Rattle.ca_arena.specs.declared.handle.Handle.{Handle}
 use Rattle.ca_text.specs.declared.refusal.Refusal.{Refusal}
 use Rattle.ca_text.specs.Place.{At}
@@ -26,5 +26,5 @@ SubscribesOn i c a mask x logs ks result x' logs' ks' =
     (λ (h : Handle). ClientSubscribes x.core h a mask)
     (λ (h q : Handle). subscribe_names c x q)
     (λ (h q : Handle). subscribe_names c x q)
-    (λ (h q : Handle). Called (next_meant c x) None ∷ [])
+    (λ (h q : Handle). Called (next_meant c x) (history.ToWatch a.data_type a.count mask) ∷ [])
     x logs ks result x' logs' ks'

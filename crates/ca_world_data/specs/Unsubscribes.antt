@@ -8,7 +8,7 @@ use Rattle.ca_text.specs.declared.refusal.Refusal.TheVariants as refusal
 use Rattle.ca_text.specs.Place.{At}
 use Rattle.ca_model.specs.Client.{Client, Live, On, Standing, standing_at}
 use Rattle.ca_model.specs.ClientCalls.{ClientUnsubscribes, StandsAs, wanted_by}
-use Rattle.ca_model.specs.History.{Called, Intent, Line}
+use Rattle.ca_model.specs.History.{Called, Intent, Line, Nothing}
 use Rattle.ca_model.specs.ClientEvents.{cancelled}
 use Rattle.ca_model.specs.World.{ClientSide, Joined}
 use Rattle.ca_world_data.specs.declared.cancelling.Cancelling.{Cancelling}
@@ -57,5 +57,5 @@ UnsubscribesOn i n x logs ks result x' logs' ks' =
     (λ (s : Handle × Intent). ClientUnsubscribes x.core s.0)
     (λ (s : Handle × Intent) (u : Unit {0}). x.names)
     (λ (s : Handle × Intent) (u : Unit {0}). x.names)
-    (λ (s : Handle × Intent) (u : Unit {0}). Called (cancelled s.1) None ∷ [])
+    (λ (s : Handle × Intent) (u : Unit {0}). Called (cancelled s.1) Nothing ∷ [])
     x logs ks result x' logs' ks'

@@ -86,13 +86,25 @@ pub struct Recorded {
     pub meta: Meta,
 }
 
+/// What a call asks for, beside its intent.
+#[derive(Debug, Drop)]
+pub enum Wish {
+    Nothing,
+    /// A read: for elements of this type, and this many.
+    ToRead(u16, u32),
+    /// A subscription: for updates of this type, with this many elements, by this mask.
+    ToWatch(u16, u32, u16),
+    /// A write of this value.
+    ToWrite(Value),
+}
+
 /// A line of the log of a client's life.
 #[derive(Debug, Drop)]
 pub enum Line {
     /// The channel of this number was opened under this name.
     Opened(usize, Vec<u8>),
-    /// Another call was accepted, with its value if it writes one.
-    Called(Intent, Option<Value>),
+    /// Another call was accepted, with what it asks for.
+    Called(Intent, Wish),
     /// A notice told what became of an intent.
     Noticed(Intent, Outcome),
     /// A notice told an update of a subscription.

@@ -61,7 +61,7 @@ entry_text log line = []
 -- a call that was accepted has no line
 abbrev pub is_shown : Line → Bool
 is_shown (history.Opened n name) = false
-is_shown (history.Called intent value) = false
+is_shown (history.Called intent asks) = false
 is_shown line = true
 
 -- a line: the client's number, what happened, and a line feed

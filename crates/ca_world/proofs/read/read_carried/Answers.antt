@@ -1,4 +1,4 @@
-use Rattle.std.proofs.Common.{◌≡◌, ℕ, List, [], ◌∷◌, ◌++◌, Ok, None, length, arith, refl, sym, ap, subst, ◌∙◌}
+use Rattle.std.proofs.Common.{◌≡◌, ℕ, List, [], ◌∷◌, ◌++◌, Ok, length, arith, refl, sym, ap, subst, ◌∙◌}
 use Rattle.std.specs.Prelude.{map}
 use Rattle.std.proofs.lemmas.List.{length-map, map-append}
 use Rattle.ca_arena.specs.declared.handle.Handle.{Handle}
@@ -44,7 +44,7 @@ returns-in-Ok-clause-reads c =
     (reads-done i ch a (client_of y) x' logs logs' ks ks' c.in_ok-handle.handle q way y.circuits.items c.in-Ok.ensures.0 tt
     r.named given r.way r.numbered c.in-Ok.ensures.1
     (λ t. record (client_of y) { core = c.read.new.self; names = record (client_of y).names { requests = named t } })
-    (c.push_line.ensures ∙ ap (λ (n : ℕ). grown y.life (Called (On ch (Request history.Read n)) None ∷ []) logs) number)
+    (c.push_line.ensures ∙ ap (λ (n : ℕ). grown y.life (Called (On ch (Request history.Read n)) (history.ToRead a.data_type a.count) ∷ []) logs) number)
     (subst (λ (z : history.Sent). GoesUp way.circuit z ks ks') (λ t. record { message = wanted t; intent = On ch (Request history.Read (number t)) }) c.push_sent.ensures))
 
 pub returns-in-Err-clause-reads : goal.returns-in-Err-clause-reads

@@ -1,4 +1,4 @@
-use Rattle.std.proofs.Common.{◌≡◌, ℕ, List, [], ◌∷◌, ◌++◌, Ok, None, length, arith, refl, sym, ap, subst, ◌∙◌}
+use Rattle.std.proofs.Common.{◌≡◌, ℕ, List, [], ◌∷◌, ◌++◌, Ok, length, arith, refl, sym, ap, subst, ◌∙◌}
 use Rattle.std.specs.Prelude.{map}
 use Rattle.std.proofs.lemmas.List.{length-map, map-append}
 use Rattle.ca_arena.specs.declared.handle.Handle.{Handle}
@@ -47,7 +47,7 @@ returns-in-Ok-clause-subscribes c =
     (subscribes-done i ch a mask (client_of y) x' logs logs' ks ks' c.in_ok-handle.handle q way y.circuits.items c.in-Ok.ensures.0 tt
     r.named given r.way r.numbered c.in-Ok.ensures.1
     (λ t. record (client_of y) { core = c.subscribe.new.self; names = record (client_of y).names { subscriptions = named t } })
-    (c.push_line.ensures ∙ ap (λ (n : ℕ). grown y.life (Called (On ch (history.Subscribe n)) None ∷ []) logs) number)
+    (c.push_line.ensures ∙ (λ t. grown y.life (Called (On ch (history.Subscribe (number t))) (history.ToWatch a.data_type a.count (c.bits.ensures.bits t)) ∷ []) logs))
     (subst (λ (z : history.Sent). GoesUp way.circuit z ks ks') (λ t. record { message = wanted t; intent = On ch (history.Subscribe (number t)) }) c.push_sent.ensures))
 
 pub returns-in-Err-clause-subscribes : goal.returns-in-Err-clause-subscribes

@@ -1,4 +1,4 @@
-use Rattle.std.proofs.Common.{ℕ, List, [], ◌∷◌, Ok, None, refl, sym, ap, subst, ◌∙◌}
+use Rattle.std.proofs.Common.{ℕ, List, [], ◌∷◌, Ok, refl, sym, ap, subst, ◌∙◌}
 use Rattle.std.specs.Prelude.{map}
 use Rattle.ca_arena.specs.declared.handle.Handle.{Handle}
 use Rattle.ca_text.specs.Place.{At}
@@ -37,7 +37,7 @@ returns-in-Ok-clause-unsubscribes c =
     (unsubscribes-done i n (client_of x) x' logs logs' ks ks' s w x.circuits.items c.in-Ok.ensures.0 tt
     named refl (c.requires.theirs n s named) r.way r.numbered c.in-Ok.ensures.1
     refl
-    (c.push_line.ensures ∙ ap (λ (m : Intent). grown x.life (Called m None ∷ []) logs) meant)
+    (c.push_line.ensures ∙ ap (λ (m : Intent). grown x.life (Called m history.Nothing ∷ []) logs) meant)
     (subst (λ (z : history.Sent). GoesUp w.circuit z ks ks') (λ t. record { message = c.event_cancel_request-message.ensures t; intent = meant t }) c.push_sent.ensures))
 
 pub returns-in-Err-clause-unsubscribes : goal.returns-in-Err-clause-unsubscribes

@@ -1,4 +1,4 @@
-use Rattle.std.proofs.Common.{◌≡◌, ℕ, List, [], ◌∷◌, Ok, Some, false, arith, refl, sym, ap, subst, ◌∙◌}
+use Rattle.std.proofs.Common.{◌≡◌, ℕ, List, [], ◌∷◌, Ok, false, arith, refl, sym, ap, subst, ◌∙◌}
 use Rattle.std.specs.Prelude.{map}
 use Rattle.ca_wire.specs.Fields.{IsPayload}
 use Rattle.ca_wire.proofs.Padding.{padded-payload}
@@ -52,7 +52,7 @@ returns-in-Ok-clause-writes c =
     (writes-done i ch a (client_of y) x' logs logs' ks ks' c.in_ok-handle.handle way y.circuits.items c.in-Ok.ensures.0 tt
     r.named once r.way r.numbered c.in-Ok.ensures.1
     refl
-    (c.push_line.ensures ∙ (λ t. grown y.life (Called (On ch (Request history.Write y.names.writes)) (Some (c.in_ok-own.ensures t)) ∷ []) logs))
+    (c.push_line.ensures ∙ (λ t. grown y.life (Called (On ch (Request history.Write y.names.writes)) (history.ToWrite (c.in_ok-own.ensures t)) ∷ []) logs))
     (subst (λ (z : history.Sent). GoesUp way.circuit z ks ks') (λ t. record { message = wanted t; intent = On ch (Request history.Write y.names.writes) }) c.push_sent.ensures))
 
 pub returns-in-Err-clause-writes : goal.returns-in-Err-clause-writes

@@ -1,4 +1,4 @@
-use Rattle.std.proofs.Common.{◌≡◌, ℕ, List, [], ◌∷◌, ◌++◌, Ok, Some, length, arith, refl, sym, ap, subst, ◌∙◌}
+use Rattle.std.proofs.Common.{◌≡◌, ℕ, List, [], ◌∷◌, ◌++◌, Ok, length, arith, refl, sym, ap, subst, ◌∙◌}
 use Rattle.std.specs.Prelude.{map}
 use Rattle.std.proofs.lemmas.List.{length-map, map-append}
 use Rattle.ca_arena.specs.declared.handle.Handle.{Handle}
@@ -63,7 +63,7 @@ returns-in-Ok-clause-puts c =
     (puts-done i ch a (client_of y) x' logs logs' ks ks' c.in_ok-handle.handle q way y.circuits.items c.in-Ok.ensures.0 tt
     r.named given r.way r.numbered c.in-Ok.ensures.1
     (λ t. record (client_of y) { core = c.write_notify.new.self; names = record (client_of y).names { requests = named t } })
-    (c.push_line.ensures ∙ (λ t. grown y.life (Called (On ch (Request history.Put (number t))) (Some (c.in_ok-own.ensures t)) ∷ []) logs))
+    (c.push_line.ensures ∙ (λ t. grown y.life (Called (On ch (Request history.Put (number t))) (history.ToWrite (c.in_ok-own.ensures t)) ∷ []) logs))
     (subst (λ (z : history.Sent). GoesUp way.circuit z ks ks') (λ t. record { message = wanted t; intent = On ch (Request history.Put (number t)) }) c.push_sent.ensures))
 
 pub returns-in-Err-clause-puts : goal.returns-in-Err-clause-puts
