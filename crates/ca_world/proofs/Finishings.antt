@@ -1,10 +1,11 @@
 -- A record's busy put is finished at a server, from what its parts became.
-use Rattle.std.proofs.Common.{◌≡◌, ◌∙◌, ℕ, zero, suc, ◌+◌, ◌<◌, ◌≤◌, ◌==◌, ◌&&◌, inl, inr, Bool, true, false, List, [], ◌∷◌, ◌++◌, Option, Some, None, Result, Ok, Err, drop, length, refl, sym, ap, subst, arith}
+use Rattle.std.proofs.Common.{◌≡◌, ◌∙◌, ℕ, zero, suc, ◌+◌, ◌<◌, ◌≤◌, ◌==◌, ◌&&◌, below_more, inl, inr, Bool, true, false, List, [], ◌∷◌, ◌++◌, Option, Some, None, Result, Ok, Err, drop, length, refl, sym, ap, subst, arith}
 use Rattle.std.specs.Prelude.{IsErrAnd, OnOk, Vec, if◌then◌else◌, is_some, map, option_map, slice_get, slice_set, unwrap_or, vec_capacity, vec_len}
 use Rattle.std.specs.declared.alloc.Global.{Global}
 use Rattle.std.specs.List.{fold}
 use Rattle.std.specs.Str.{bytes_eq}
 use Rattle.std.proofs.lemmas.List.{append-nil, append_assoc, length-append, length-map}
+use Rattle.std.proofs.lemmas.Slice.Eq.{bytes_eq-Decides}
 use Rattle.ca_arena.specs.declared.handle.Handle.{Handle}
 use Rattle.ca_dbr.specs.Elements.{Elements}
 use Rattle.ca_ids.specs.Table.{under}
@@ -284,8 +285,17 @@ module _ (w : model.World) (i : ℕ) (y : model.ServerSide) (name : List ℕ) (a
           At-one l.log n _ _ in_life (subst (λ (k : ℕ). At l.log k (history.Waits p.circuit p.place r.number came.v)) (sym place) came.came.1) in
           ap (λ (z : Elements). Some z) (sym came.with_it ∙ sym (ap (λ (z : history.Entry). value-waits z v) is) ∙ v_is)
 
+  -- the circuit of a busy put is there
+  busy-place : (b : Put) (o : Option PutPlace) → IsBusyAs (IsPutOf w.circuits i) o (Some b) → (p : PutPlace) × (j : model.Joined) × (o ≡ Some p) × At w.circuits p.circuit j
+  busy-place b None is = absurd is
+  busy-place b (Some p) is = (p, is.c, refl, is.on)
+
   pub run-may-finish : MayFinish name y w.circuits w.server_logs
   run-may-finish = record {
+    there = λ c b named cb.
+        let f = found (IsPutOf w.circuits i) l.log y.core.records y.records name c l.life.each named in
+        (f.r, (named, (f.i, f.in_rs, f.named)));
+    placed = λ c r b beside cb. busy-place b r.busy (subst (λ (z : Option Put). IsBusyAs (IsPutOf w.circuits i) r.busy z) cb (agree-beside c r beside).busy_as);
     handle = λ c r b p j beside cb rb there.
         let g = agree-beside c r beside in
         let is : IsPutOf w.circuits i p b = subst (λ (z : Option PutPlace × Option Put). IsBusyAs (IsPutOf w.circuits i) z.0 z.1) (λ t. (rb t, cb t)) g.busy_as in
@@ -550,6 +560,17 @@ waits-after name rs new is =
     let less = waits-less name (map record_of rs) in
     omega (arith, was, now, less)
 
+-- ---- the record of a name
+
+pub names-differ : (a b : List ℕ) → bytes_eq a b ≡ false → a ≡ b → ⊥
+names-differ a b differ same = (let alike : bytes_eq a b ≡ true = (bytes_eq-Decides a b).1 same in absurd cc)
+
+-- None before this one has the name, nor has this one.
+pub none-next : (rs : List Held) (name : List ℕ) (n : ℕ) (r : Held) → ((place : ℕ) → place < n → (q : Held) → At rs place q → q.name.items ≡ name → ⊥) → At rs n r → (r.name.items ≡ name → ⊥)
+    → (place : ℕ) → place < n + 1 → (q : Held) → At rs place q → q.name.items ≡ name → ⊥
+none-next rs name n r before at differ =
+    below_more (λ (place : ℕ). (q : Held) → At rs place q → q.name.items ≡ name → ⊥) n before (λ q there is. differ (ap (λ (z : Held). z.name.items) (At-one rs n r q at there) ∙ is))
+
 -- ---- a record that is busy
 
 -- a record has a busy value, or none
@@ -575,11 +596,35 @@ pub found-beside : (y : ServerSide) (rs : List Held) (name : List ℕ) (r : Held
 found-beside y rs name r b busy same (place, at, is) =
     (busy.named, (place, subst (λ (z : List Held). At (map record_of z) place (record_of r)) same (At-map record_of rs place r at), is))
 
+-- the core's has one beside it
+pub busy-there : (y : ServerSide) (rs : List Held) (name : List ℕ) (ks : List model.Joined) (logs : List (List history.Entry)) (b : Put) (busy : IsBusy y.core name b) → MayFinish name (server_of y) ks logs → rs ≡ y.records.items → IsFound rs name None → ⊥
+busy-there y rs name ks logs b busy may same none =
+    let d = may.there busy.c b busy.named busy.busy in
+    let place : ℕ = d.1.1.0 in
+    let r = At-mapped record_of y.records.items place d.0 d.1.1.1 in
+    none place r.0 (subst (λ (z : List Held). At z place r.0) (sym same) r.1) (sym (ap (λ (z : model.RecordSide). z.name) r.2) ∙ d.1.1.2)
+
+-- which is busy too
+pub busy-beside : (y : ServerSide) (ks : List model.Joined) (logs : List (List history.Entry)) (name : List ℕ) (r : Held) (b : Put) (busy : IsBusy y.core name b) → MayFinish name (server_of y) ks logs → IsBeside y.core (map record_of y.records.items) name busy.c (record_of r)
+    → r.busy ≡ None → ⊥
+busy-beside y ks logs name r b busy may beside idle =
+    let d = may.placed busy.c (record_of r) b beside busy.busy in
+    let none : ◌≡◌ {A = Option PutPlace} None (Some d.0) = sym (ap (option_map place_of) idle) ∙ d.2 in
+    absurd cc
+
 -- its put came on this circuit
-pub busy-on : (y : ServerSide) (ks : List model.Joined) (logs : List (List history.Entry)) (name : List ℕ) (r : model.RecordSide) (p : model.PutPlace) (j : model.Joined) (b : Put) (busy : IsBusy y.core name b) → MayFinish name (server_of y) ks logs
-    → IsBeside y.core (map record_of y.records.items) name busy.c r → r.busy ≡ Some p → At ks p.circuit j → IsBusyOn y.core name p.circuit ks
-busy-on y ks logs name r p j b busy may beside is at =
-    record { b = b; is = busy; j = j; at = at; handle = may.handle busy.c r b p j beside busy.busy is at; fits = may.fits busy.c b busy.named busy.busy }
+pub busy-on : (y : ServerSide) (ks : List Joined) (logs : List (List history.Entry)) (name : List ℕ) (r : Held) (p : Came) (b : Put) (busy : IsBusy y.core name b) → MayFinish name (server_of y) (map joined_of ks) logs
+    → IsBeside y.core (map record_of y.records.items) name busy.c (record_of r) → r.busy ≡ Some p → IsBusyOn y.core name p.circuit (map joined_of ks)
+busy-on y ks logs name r p b busy may beside is =
+    let placed : (record_of r).busy ≡ Some (place_of p) = ap (option_map place_of) is in
+    let d = may.placed busy.c (record_of r) b beside busy.busy in
+    let same : d.0 ≡ place_of p = some_is d.0 (place_of p) (sym d.2 ∙ placed) in
+    let at : At (map joined_of ks) p.circuit d.1 = subst (λ (z : PutPlace). At (map joined_of ks) z.circuit d.1) same d.3 in
+    record { b = b; is = busy; j = d.1; at = at; handle = may.handle busy.c (record_of r) b (place_of p) d.1 beside busy.busy placed at; fits = may.fits busy.c b busy.named busy.busy }
+
+-- which is there
+pub on-within : (y : Server) (name : List ℕ) (k : ℕ) (ks : List Joined) → IsBusyOn y name k (map joined_of ks) → k < length ks
+on-within y name k ks on = (let within = At-within (map joined_of ks) k on.j on.at in let long = length-map ks joined_of in omega (arith, within, long))
 
 -- ---- a server after it
 

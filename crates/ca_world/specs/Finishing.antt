@@ -63,16 +63,22 @@ abbrev pub IsBeside : Server → List RecordSide → (name : List ℕ) → Recor
 IsBeside y rs name c r =
     (record_named y.records name ≡ Some c) × ((place : ℕ) × At rs place r × (r.name ≡ name))
 
--- the record of this name, if one was found
+-- the record of this name, if one was found; else none has it
 abbrev pub IsFound : List Held → (name : List ℕ) → Option Held → Type 0
-IsFound rs name None = Unit {0}
+IsFound rs name None = (place : ℕ) (r : Held) → At rs place r → r.name.items ≡ name → ⊥
 IsFound rs name (Some r) = (place : ℕ) × At rs place r × (r.name.items ≡ name)
 
--- What holds of a record of this name, so that its busy put may be finished: the put came on the
--- circuit of its handle, its reply is a message, the log says the value of the put that waits
--- first, and writes are stored with no stamp.
+-- What holds of a record of this name, so that its busy put may be finished: the record is there
+-- beside the core's, with the place of the put, whose circuit is there; the put came on the circuit
+-- of its handle, its reply is a message, the log says the value of the put that waits first, and
+-- writes are stored with no stamp.
 pub record MayFinish (name : List ℕ) (y : Side) (ks : List Joined)
     (logs : List (List history.Entry)) : Type 0 where
+  pub there : (c : Record) (b : Put) → record_named y.core.records name ≡ Some c → c.busy ≡ Some b
+      → (r : RecordSide) × IsBeside y.core y.records name c r
+  pub placed : (c : Record) (r : RecordSide) (b : Put) → IsBeside y.core y.records name c r
+      → c.busy ≡ Some b
+      → (p : PutPlace) × (j : Joined) × (r.busy ≡ Some p) × At ks p.circuit j
   pub handle : (c : Record) (r : RecordSide) (b : Put) (p : PutPlace) (j : Joined)
       → IsBeside y.core y.records name c r → c.busy ≡ Some b → r.busy ≡ Some p → At ks p.circuit j
       → j.at_server ≡ b.circuit

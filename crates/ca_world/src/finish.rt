@@ -64,8 +64,7 @@ impl World {
 }
 
 // A put is finished at this server. A finish that its core would refuse changes nothing. A record
-// that is busy in the core is there beside it, with the circuit of its put; were it not, that would
-// be answered as if out of memory.
+// that is busy in the core is there beside it, with the place of its put, whose circuit is there.
 fn finish_at(
     alloc: Global,
     server: usize,
@@ -99,14 +98,11 @@ fn finish_at(
         return Ok(());
     }
     let Some(found) = find_record(name, &side.records) else {
-        return Err(Refusal::OutOfMemory);
+        unreachable!()
     };
     let Some(put) = found.busy else {
-        return Err(Refusal::OutOfMemory);
+        unreachable!()
     };
-    if put.circuit >= circuits.len() {
-        return Err(Refusal::OutOfMemory);
-    }
     let number = found.number;
     let next = first_put(&found.waiting);
     let value = next_value(alloc, logs, side.life, &found.waiting)?;
@@ -173,7 +169,6 @@ fn tell_finish(
         put.circuit
         (map joined_of circuits.old.items) }
     requires counts { AllMayCount circuits.old.items }
-    requires within { put.circuit < vec_len circuits.old }
     requires space { HasRoomOn put.circuit circuits.old.items }
     requires room { HasRoomFor (waits side.old.records.items + 2) side.old.life logs.old.items }
     ensures { TellsFinish
@@ -348,7 +343,7 @@ fn tell_reply(
     });
 }
 
-// The record of this name.
+// The record of this name, or none has it.
 fn find_record<'a>(name: &[u8], records: &'a [RecordSide]) -> Option<&'a RecordSide>
     ensures { IsFound records.now name.now (option_map (λ r. r.now) result) }
 {

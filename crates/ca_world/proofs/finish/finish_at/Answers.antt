@@ -3,7 +3,6 @@ use Rattle.std.specs.Prelude.{Vec, is_some, option_map}
 use Rattle.std.specs.declared.alloc.Global.{Global}
 use Rattle.ca_dbr.specs.Elements.{Elements, elements}
 use Rattle.ca_records.specs.declared.puts.Put.{Put}
-use Rattle.ca_text.proofs.Places.{At-map}
 use Rattle.ca_model.specs.History as history
 use Rattle.ca_model.specs.ServerEvents.{first_of}
 use Rattle.ca_model.specs.World as model
@@ -15,8 +14,7 @@ use Rattle.ca_world_data.specs.declared.server.RecordSide.{RecordSide}
 use Rattle.ca_world_data.specs.declared.server.ServerSide.{ServerSide}
 use Rattle.ca_world_data.specs.Opening.{entries_in}
 use Rattle.ca_world_data.specs.Seen.{joined_of, place_of, record_of}
-use Rattle.ca_world_data.proofs.Worlds.{one-at}
-use Rattle.ca_world.proofs.Finishings.{busy-on, finish-lacking, found-beside, none-busy, refuses, some-busy, told-ends}
+use Rattle.ca_world.proofs.Finishings.{busy-beside, busy-on, busy-there, finish-lacking, found-beside, none-busy, on-within, refuses, some-busy, told-ends}
 use Rattle.ca_world.proofs.finish.finish_at.Goals as goal
 
 pub returns-then-is_none : goal.returns-then-is_none
@@ -25,29 +23,36 @@ returns-then-is_none c =
     let d = refuses c.args.side.now.core c.args.name.now (none-busy (λ v. elements v.now) c.busy_value.result c.args.side.now.core c.args.name.now c.busy_value.ensures has) in
     inr (d.0, d.1, refl, refl, refl)
 
-pub returns-in_default : goal.returns-in_default
-returns-in_default c =
+pub unreachable-requires : goal.unreachable-requires
+unreachable-requires c =
     let y : ServerSide = c.args.side.now in
     let name : List ℕ = c.args.name.now in
     let has : is_some c.busy_value.result ≡ true = c.is_none.ensures ∙ ap not c.if-is_none.false in
     let b : (z : Put) × IsBusy y.core name z = some-busy (λ v. elements v.now) c.busy_value.result y.core name c.busy_value.ensures has in
-    (b, refl, refl, refl)
+    busy-there y c.deref.result.now name (map joined_of c.args.circuits.now.items) (entries_in c.args.logs.now.items) b.0 b.1 c.requires.may c.deref.ensures.value c.in_default.ensures
 
-pub returns-in_default-busy : goal.returns-in_default-busy
-returns-in_default-busy c =
+pub unreachable-requires-in_default-busy : goal.unreachable-requires-in_default-busy
+unreachable-requires-in_default-busy c =
     let y : ServerSide = c.args.side.now in
     let name : List ℕ = c.args.name.now in
+    let r : RecordSide = c.in-Some.found.now in
     let has : is_some c.busy_value.result ≡ true = c.is_none.ensures ∙ ap not c.if-is_none.false in
     let b : (z : Put) × IsBusy y.core name z = some-busy (λ v. elements v.now) c.busy_value.result y.core name c.busy_value.ensures has in
-    (b, refl, refl, refl)
+    let beside : IsBeside y.core (map record_of y.records.items) name b.1.c (record_of r) = found-beside y c.deref.result.now name r b.0 b.1 c.deref.ensures.value c.in-Some.ensures in
+    busy-beside y (map joined_of c.args.circuits.now.items) (entries_in c.args.logs.now.items) name r b.0 b.1 c.requires.may beside c.in_default-busy.is
 
-pub returns-then-put-len : goal.returns-then-put-len
-returns-then-put-len c =
+pub reserve_finish-requires : goal.reserve_finish-requires
+reserve_finish-requires c =
     let y : ServerSide = c.args.side.now in
     let name : List ℕ = c.args.name.now in
+    let ks : List Joined = c.args.circuits.now.items in
+    let r : RecordSide = c.in-Some.found.now in
+    let p : PutPlace = c.in-Some-busy.put in
     let has : is_some c.busy_value.result ≡ true = c.is_none.ensures ∙ ap not c.if-is_none.false in
     let b : (z : Put) × IsBusy y.core name z = some-busy (λ v. elements v.now) c.busy_value.result y.core name c.busy_value.ensures has in
-    (b, refl, refl, refl)
+    let beside : IsBeside y.core (map record_of y.records.items) name b.1.c (record_of r) = found-beside y c.deref.result.now name r b.0 b.1 c.deref.ensures.value c.in-Some.ensures in
+    let within : p.circuit < length ks = on-within y.core name p.circuit ks (busy-on y ks (entries_in c.args.logs.now.items) name r p b.0 b.1 c.requires.may beside c.in-Some-busy.is) in
+    omega (arith, within)
 
 pub returns-in_err-value : goal.returns-in_err-value
 returns-in_err-value c =
@@ -75,11 +80,8 @@ tell_finish-requires-clause-busy c =
     let has : is_some c.busy_value.result ≡ true = c.is_none.ensures ∙ ap not c.if-is_none.false in
     let b : (z : Put) × IsBusy y.core name z = some-busy (λ v. elements v.now) c.busy_value.result y.core name c.busy_value.ensures has in
     let beside : IsBeside y.core (map record_of y.records.items) name b.1.c (record_of r) = found-beside y c.deref.result.now name r b.0 b.1 c.deref.ensures.value c.in-Some.ensures in
-    let busy : option_map place_of r.busy ≡ Some (place_of p) = ap (option_map place_of) c.in-Some-busy.is in
-    let within : p.circuit < length ks = omega (arith, c.if-put-len.false, c.len.ensures) in
-    let j = one-at ks p.circuit within in
     subst (λ (js : List model.Joined). IsBusyOn y.core name p.circuit js) (sym c.reserve_finish.ensures.same)
-    (busy-on y (map joined_of ks) (entries_in c.args.logs.now.items) name (record_of r) (place_of p) (joined_of j.0) b.0 b.1 c.requires.may beside busy (At-map joined_of ks p.circuit j.0 j.1))
+    (busy-on y ks (entries_in c.args.logs.now.items) name r p b.0 b.1 c.requires.may beside c.in-Some-busy.is)
 
 pub returns : goal.returns
 returns c =

@@ -1,4 +1,4 @@
-use Rattle.std.proofs.Common.{◌≡◌, ◌∙◌, ℕ, Bool, List, map, refl, sym, ap, subst}
+use Rattle.std.proofs.Common.{◌≡◌, ◌∙◌, ℕ, ◌<◌, Bool, List, length, map, refl, sym, ap, subst, arith}
 use Rattle.std.specs.Prelude.{is_some, option_map}
 use Rattle.std.specs.Vec.{with_items}
 use Rattle.std.proofs.lemmas.List.{with_items_is}
@@ -6,13 +6,20 @@ use Rattle.ca_model.specs.History as history
 use Rattle.ca_model.specs.ServerEvents.{next_busy, with_record}
 use Rattle.ca_model.specs.World as model
 use Rattle.ca_world.specs.Finishing.{Finished, numbered}
+use Rattle.ca_world_data.specs.declared.joined.Joined.{Joined}
 use Rattle.ca_world_data.specs.declared.server.RecordSide.{RecordSide}
 use Rattle.ca_world_data.specs.declared.server.ServerSide.{ServerSide}
 use Rattle.ca_world_data.specs.Opening.{entries_in}
 use Rattle.ca_world_data.specs.Reporting.{AreServed, Reports, waits}
 use Rattle.ca_world_data.specs.Seen.{joined_of, place_of, record_of, server_of}
-use Rattle.ca_world.proofs.Finishings.{entries-fewer, served-numbered, served-replied, some-mapped, waits-after}
+use Rattle.ca_world.proofs.Finishings.{entries-fewer, on-within, served-numbered, served-replied, some-mapped, waits-after}
 use Rattle.ca_world.proofs.finish.tell_finish.Goals as goal
+
+pub finish_on-requires-clause-within : goal.finish_on-requires-clause-within
+finish_on-requires-clause-within c =
+    let ks : List Joined = c.args.circuits.now.items in
+    let within : c.args.put.circuit < length ks = on-within c.args.side.now.core c.args.name.now c.args.put.circuit ks c.requires.busy in
+    omega (arith, within)
 
 pub report_ends-requires-clause-room : goal.report_ends-requires-clause-room
 report_ends-requires-clause-room c =
