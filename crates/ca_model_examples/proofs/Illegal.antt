@@ -14,11 +14,11 @@ use Rattle.ca_wire.proofs.Headers.{header-spells}
 use Rattle.ca_model.specs.Speech.{Cid, Ioid, Creates, Gives, Id, In, Is, SubId, name_in, sid_in}
 use Rattle.ca_model.specs.History.{Cancel, Clear, Create, Read, Request, Subscribe, Write, Intent, On, Sent, Told, Step, Circuit, Entry, Line, Added, Called, Noticed, Opened, Nothing, ToRead, ToWatch, ToWrite, Wish}
 use Rattle.ca_model.specs.Channels.{IsHeld, Meant}
-use Rattle.ca_model.specs.Sends.{Conduct, Frees, HasChannel, IsFree, SameIndex, IsConnected, IsDisconnect, IsOnChannel, IsOpenAt, IsRefused, IsUncancelled, ReadsBetween}
+use Rattle.ca_model.specs.Sends.{Conduct, Frees, HasChannel, HasCleared, IsFree, SameIndex, IsConnected, IsDisconnect, IsOnChannel, IsOpenAt, IsRefused, IsUncancelled, ReadsBetween}
 use Rattle.ca_model.specs.Legal.{AsksFor, BecomesLive, Carries, IsStanding, Legal, MayAsk, WasCalled, client_conduct, server_conduct}
-use Rattle.ca_model_examples.specs.Worlds.{putting, clearing, temp, adding, created_told, creating, disconnected, long, reading, step, temp_name, world}
-use Rattle.ca_model_examples.specs.Unsafe.{cancelling, opened, temp_removed, temp_there, updated}
-use Rattle.ca_model_examples.specs.Illegal.{added_after, added_again, asked_after, asked_again, asked_with, both_asked, both_created, called_at, called_in, calls, cancel_called, clears_lost, confirm_out, created_again, created_read, goes_out, live_again, read_for, read_out, reads_out, refused, refused_out, alone, writing, unasked, sent_in, subscribe_called, told_closed, told_so, two_circuits, uncalled_in, update_out, watch_for, write_called}
+use Rattle.ca_model_examples.specs.Worlds.{circuit, putting, clearing, temp, adding, created_told, creating, disconnected, long, reading, step, temp_name, world}
+use Rattle.ca_model_examples.specs.Unsafe.{cancelling, echo, opened, temp_removed, temp_there, updated, value_21}
+use Rattle.ca_model_examples.specs.Illegal.{added_after, added_again, asked_after, asked_again, asked_with, both_asked, both_created, called_at, called_in, calls, cancel_called, cancelled_between, clears_lost, confirm_out, created_again, created_read, echo_first, goes_out, live_again, never_cleared, read_for, read_out, reads_out, reread_after, refused, refused_out, alone, writing, unasked, sent_in, subscribe_called, told_closed, told_so, two_circuits, uncalled_in, update_out, watch_for, write_called}
 use Rattle.ca_model_examples.specs.Parts.{CalledSo, HeldSo, MaySend, Sending, SendsWrong, SentSo}
 use Rattle.ca_model_examples.specs.Parts as part
 use Rattle.ca_model_examples.proofs.Lists.{each-at, none-at, one-at, two-at}
@@ -198,6 +198,61 @@ id-reused = (
       let late = f.7 in
       let rights : f.3.command ≡ 22 = each-at (λ (j : ℕ) (m : Fields). At (1 ∷ 2 ∷ []) j f.1 → m.command ≡ 22) (client_conduct (reads_out 7)).came ((λ at. absurd (let one = some_is 1 f.1 at in omega (arith, one, late))), ((λ at. refl), tt)) f.0 f.3 f.5 f.6 in
       not-freed (client_conduct (reads_out 7)) f.1 f.2 f.3 read rights f.9),
+)
+
+-- an IOID is given again: the read's reply was read after n messages
+reread-each : (n : ℕ) (p : Sending) → (p ≡ part.Ids → ⊥) → MaySend p (sent_in (reread_after n))
+reread-each n part.Ids ne = absurd (ne refl)
+reread-each n part.OnChannel ne = sends part.OnChannel (reread_after n) (calls (reread_after n).up) temp_there refl refl (all-on-sid (reread_after n) (calls (reread_after n).up) temp_there ((reading 0 7).message) ((reading 1 7).message ∷ []) 1 refl refl refl refl refl refl refl) tt
+reread-each n p ne = quiet-sends p (reread_after n) (calls (reread_after n).up) temp_there refl refl refl
+
+-- the reply frees the IOID
+reread-free : IsFree (client_conduct (reread_after 2)) 1 2
+reread-free = (1, 2, (reading 0 7).message, value_21, refl, refl, refl, omega arith, omega arith, inr (inl (inl refl, inl (refl, refl))))
+
+read-at : (l : ℕ) (r : Fields) → At (client_conduct (reread_after 2)).sent l r → (Is command.ReadNotify r ⊎ Is command.WriteNotify r) → (l ≡ 1) ⊎ (l ≡ 2)
+read-at l r at is = each-at (λ (i : ℕ) (z : Fields). (Is command.ReadNotify z ⊎ Is command.WriteNotify z) → (i ≡ 1) ⊎ (i ≡ 2)) (client_conduct (reread_after 2)).sent (
+  (λ f. absurd (elim f [ inl e ↦ omega (arith, e) | inr e ↦ omega (arith, e) ])),
+  ((λ f. inl refl), ((λ f. inr refl), tt)),
+) l r at is
+
+reread-ids : (l k : ℕ) (r m : Fields) (a b : Id) → l < k → At (client_conduct (reread_after 2)).sent l r → At (client_conduct (reread_after 2)).sent k m → Gives r a → Gives m b → SameIndex a b → IsFree (client_conduct (reread_after 2)) l k
+reread-ids l k r m (Ioid a) (Ioid b) lt p q g h same = elim (read-at l r p g.0) [
+  | inl i ↦ elim (read-at k m q h.0) [
+    | inl j ↦ absurd (omega (arith, i, j, lt))
+    | inr j ↦ subst (λ (z : ℕ). IsFree (client_conduct (reread_after 2)) z k) (sym i) (subst (λ (z : ℕ). IsFree (client_conduct (reread_after 2)) 1 z) (sym j) reread-free)
+  ]
+  | inr i ↦ elim (read-at k m q h.0) [
+    | inl j ↦ absurd (omega (arith, i, j, lt))
+    | inr j ↦ absurd (omega (arith, i, j, lt))
+  ]
+]
+reread-ids l k r m (Cid a) (Cid b) lt p q g h same =
+    let j : k ≡ 0 = each-at (λ (i : ℕ) (z : Fields). Is command.CreateChannel z → i ≡ 0) (client_conduct (reread_after 2)).sent ((λ f. refl), ((λ f. absurd (omega (arith, f))), ((λ f. absurd (omega (arith, f))), tt))) k m q h.0 in
+    absurd (omega (arith, j, lt))
+reread-ids l k r m (SubId a) b lt p q g h same =
+    absurd (each-at (λ (i : ℕ) (z : Fields). Is command.EventAdd z → ⊥) (client_conduct (reread_after 2)).sent ((λ f. omega (arith, f)), ((λ f. omega (arith, f)), ((λ f. omega (arith, f)), tt))) l r p g.0)
+reread-ids l k r m (Ioid a) (Cid b) lt p q g h same = absurd same
+reread-ids l k r m (Ioid a) (SubId b) lt p q g h same = absurd same
+reread-ids l k r m (Cid a) (Ioid b) lt p q g h same = absurd same
+reread-ids l k r m (Cid a) (SubId b) lt p q g h same = absurd same
+
+reread-legal-each : (p : Sending) → MaySend p (sent_in (reread_after 2))
+reread-legal-each part.Ids = sends part.Ids (reread_after 2) (calls (reread_after 2).up) temp_there refl refl reread-ids tt
+reread-legal-each p = reread-each 2 p (λ e. cc)
+
+pub reread-legal : Legal (sent_in (reread_after 2))
+reread-legal = all-legal _ reread-legal-each
+
+-- all that was read was read before the first read was sent
+pub reread-too-soon : SendsWrong part.Ids (sent_in (reread_after 1))
+reread-too-soon = (
+  reread-each 1,
+  λ h.
+      (let f = its-sent part.Ids (reread_after 1) (calls (reread_after 1).up) temp_there refl refl h.0 1 2 (reading 0 7).message (reading 1 7).message (Ioid 7) (Ioid 7) (omega arith) refl refl (inl refl, refl) (inl refl, refl) refl in
+      let one : f.1 ≡ 1 = each-at (λ (j n : ℕ). n ≡ 1) (1 ∷ 1 ∷ []) (refl, (refl, tt)) f.0 f.1 f.6 in
+      let late = f.7 in
+      omega (arith, one, late)),
 )
 
 -- ---- what a server sends
@@ -485,6 +540,51 @@ asked-too-soon = (
           not-cleared e b r m creates (ap (λ (z : Fields). z.command) second.1) one frees
     ]
 
+-- the CID is given again, and no CLEAR_CHANNEL was sent
+never-clear : (b cid : ℕ) → HasCleared (client_conduct never_cleared) 0 b cid → ⊥
+never-clear b cid h = each-at (λ (i : ℕ) (z : Fields). Is command.ClearChannel z → ⊥) (client_conduct never_cleared).sent ((λ f. omega (arith, f)), ((λ f. omega (arith, f)), ((λ f. omega (arith, f)), tt))) h.0 h.1 h.4 h.5
+
+never-on : SentSo part.OnChannel 0 never_cleared (calls never_cleared.up) temp_there
+never-on = λ k r at on. each-at (λ (i : ℕ) (z : Fields). IsOnChannel z → (p q cid : ℕ) × HasChannel (client_conduct never_cleared) i p q cid (sid_in z)
+    × ((Is command.ClearChannel z × (z.p2 ≡ cid)) ⊎ ((Is command.ClearChannel z → ⊥) × ((l : ℕ) (d : Fields) → q < l → ReadsBetween (client_conduct never_cleared) p i l d → IsDisconnect cid d → ⊥)))) (client_conduct never_cleared).sent (
+      (λ f. absurd (clash (on-channel-so creating.message f) refl)),
+      (
+        (λ f. on-sid (client_conduct never_cleared) 1 refl refl refl (omega arith) refl refl 1 (reading 0 1).message refl (omega arith) refl),
+        ((λ f. absurd (clash (on-channel-so (asked_with 1).message f) refl)), tt),
+      ),
+    ) k r at on
+
+never-cleared-rest : (p : Sending) → (p ≡ part.Ids → ⊥) → MaySend p (sent_in never_cleared)
+never-cleared-rest part.Ids ne = absurd (ne refl)
+never-cleared-rest part.OnChannel ne = sends part.OnChannel never_cleared (calls never_cleared.up) temp_there refl refl never-on tt
+never-cleared-rest p ne = quiet-sends p never_cleared (calls never_cleared.up) temp_there refl refl refl
+
+-- so nothing frees the CID but a CREATE_CH_FAIL
+not-freed-uncleared : (b : ℕ) (r m : Fields) → r.command ≡ 18 → (m.command ≡ 26 → ⊥) → Frees (client_conduct never_cleared) 0 b r m → ⊥
+not-freed-uncleared b r m creates says h =
+    elim h [
+      | inl a ↦ elim a.1 [
+        | inl d ↦ says d.0
+        | inr d ↦ never-clear b r.p1 d.2
+      ]
+      | inr (inl a) ↦ elim a.0 [
+        | inl f ↦ omega (arith, f, creates)
+        | inr f ↦ omega (arith, f, creates)
+      ]
+      | inr (inr (inl a)) ↦ (let f = a.0 in omega (arith, f, creates))
+      | inr (inr (inr a)) ↦ never-clear b a.2 a.6
+    ]
+
+pub never-cleared : SendsWrong part.Ids (sent_in never_cleared)
+never-cleared = (
+  never-cleared-rest,
+  λ h.
+      (let f = its-sent part.Ids never_cleared (calls never_cleared.up) temp_there refl refl h.0 0 2 creating.message (asked_with 1).message (Cid 1) (Cid 1) (omega arith) refl refl (refl, refl) (refl, refl) refl in
+      let creates : f.2.command ≡ 18 = ap (λ (m : Fields). m.command) (sym (some_is creating.message f.2 f.4)) in
+      let says : f.3.command ≡ 26 → ⊥ = each-at (λ (j : ℕ) (m : Fields). m.command ≡ 26 → ⊥) (client_conduct never_cleared).came ((λ e. omega (arith, e)), ((λ e. omega (arith, e)), tt)) f.0 f.3 f.5 in
+      not-freed-uncleared f.1 f.2 f.3 creates says f.9),
+)
+
 gone-legal-each : (p : Sending) → MaySend p (sent_in (told_so (created_told ∷ disconnected ∷ [])))
 gone-legal-each part.Disconnects = sends part.Disconnects (told_so (created_told ∷ disconnected ∷ [])) (calls (told_so (created_told ∷ disconnected ∷ [])).up) temp_there refl refl (λ k m at e. each-at (λ (i : ℕ) (z : Fields). Is command.ServerDisconnect z → (a sid : ℕ) × IsOpenAt (server_conduct (told_so (created_told ∷ disconnected ∷ []))) i a z.p1 sid × IsConnected (server_conduct (told_so (created_told ∷ disconnected ∷ []))) a i z.p1) (server_conduct (told_so (created_told ∷ disconnected ∷ []))).sent ((λ f. absurd (omega (arith, f))), ((λ f. (0, 5, (created_told.message, refl, (refl, refl), refl, omega arith, λ j r reads clears. none (is 12) (server_conduct (told_so (created_told ∷ disconnected ∷ []))).came refl j r reads.1 (is-so 12 r clears.0)), λ l m a b. absurd (omega (arith, a, b)))), tt)) k m at e) tt
 gone-legal-each p = quiet-sends p (told_so (created_told ∷ disconnected ∷ [])) (calls (told_so (created_told ∷ disconnected ∷ [])).up) temp_there refl refl refl
@@ -729,27 +829,35 @@ add-by-other-mask = (add-for-rest (ToWatch 5 1 4), λ h. (let e : ◌≡◌ {A =
 abbrev other-circuit : ℕ → Bool → Circuit
 other-circuit cid stays = record (alone (asked_with cid)) { client_open = stays }
 
--- what is said of each circuit, of the log, and of the world
-two-send : (p : Sending) (cid : ℕ) (stays : Bool) → ((n : ℕ) → SentSo p n (alone creating) (calls (creating ∷ asked_with cid ∷ [])) temp_there) → ((n : ℕ) → SentSo p n (other-circuit cid stays) (calls (creating ∷ asked_with cid ∷ [])) temp_there)
-    → CalledSo p (two_circuits cid stays) 0 (calls (creating ∷ asked_with cid ∷ [])) → HeldSo p (two_circuits cid stays) → MaySend p (two_circuits cid stays)
-two-send p cid stays one two called held = (
-  λ n c at. elim (two-at (alone creating) (other-circuit cid stays) n c at) [
+-- what is said of each of two circuits, of the log, and of the world
+pair-send : (p : Sending) (d : Circuit) (x : List Line) → d.client ≡ 0 → d.server ≡ 0 → ((n : ℕ) → SentSo p n (alone creating) x temp_there) → ((n : ℕ) → SentSo p n d x temp_there) → CalledSo p (world (alone creating ∷ d ∷ []) x temp_there) 0 x
+    → HeldSo p (world (alone creating ∷ d ∷ []) x temp_there) → MaySend p (world (alone creating ∷ d ∷ []) x temp_there)
+pair-send p d x client server one two called held = (
+  λ n c at. elim (two-at (alone creating) d n c at) [
     | inl first ↦ (
-      calls (creating ∷ asked_with cid ∷ []),
+      x,
       temp_there,
-      (at, subst (λ (d : Circuit). At (two_circuits cid stays).clients d.client (calls (creating ∷ asked_with cid ∷ []))) (sym first.1) refl, subst (λ (d : Circuit). At (two_circuits cid stays).servers d.server temp_there) (sym first.1) refl),
-      subst (λ (d : Circuit). SentSo p n d (calls (creating ∷ asked_with cid ∷ [])) temp_there) (sym first.1) (one n),
+      (at, subst (λ (v : Circuit). At (x ∷ []) v.client x) (sym first.1) refl, subst (λ (v : Circuit). At (temp_there ∷ []) v.server temp_there) (sym first.1) refl),
+      subst (λ (v : Circuit). SentSo p n v x temp_there) (sym first.1) (one n),
     )
     | inr second ↦ (
-      calls (creating ∷ asked_with cid ∷ []),
+      x,
       temp_there,
-      (at, subst (λ (d : Circuit). At (two_circuits cid stays).clients d.client (calls (creating ∷ asked_with cid ∷ []))) (sym second.1) refl, subst (λ (d : Circuit). At (two_circuits cid stays).servers d.server temp_there) (sym second.1) refl),
-      subst (λ (d : Circuit). SentSo p n d (calls (creating ∷ asked_with cid ∷ [])) temp_there) (sym second.1) (two n),
+      (
+        at,
+        subst (λ (v : Circuit). At (x ∷ []) v.client x) (sym second.1) (subst (λ (k : ℕ). At (x ∷ []) k x) (sym client) refl),
+        subst (λ (v : Circuit). At (temp_there ∷ []) v.server temp_there) (sym second.1) (subst (λ (k : ℕ). At (temp_there ∷ []) k temp_there) (sym server) refl),
+      ),
+      subst (λ (v : Circuit). SentSo p n v x temp_there) (sym second.1) (two n),
     )
   ],
-  (λ life x at. (let e = one-at (calls (creating ∷ asked_with cid ∷ [])) life x at in subst (λ (v : List Line). CalledSo p (two_circuits cid stays) life v) (sym e.1) (subst (λ (m : ℕ). CalledSo p (two_circuits cid stays) m (calls (creating ∷ asked_with cid ∷ []))) (sym e.0) called))),
+  (λ life z at. (let e = one-at x life z at in subst (λ (v : List Line). CalledSo p (world (alone creating ∷ d ∷ []) x temp_there) life v) (sym e.1) (subst (λ (m : ℕ). CalledSo p (world (alone creating ∷ d ∷ []) x temp_there) m x) (sym e.0) called))),
   held,
 )
+
+two-send : (p : Sending) (cid : ℕ) (stays : Bool) → ((n : ℕ) → SentSo p n (alone creating) (calls (creating ∷ asked_with cid ∷ [])) temp_there) → ((n : ℕ) → SentSo p n (other-circuit cid stays) (calls (creating ∷ asked_with cid ∷ [])) temp_there)
+    → CalledSo p (two_circuits cid stays) 0 (calls (creating ∷ asked_with cid ∷ [])) → HeldSo p (two_circuits cid stays) → MaySend p (two_circuits cid stays)
+two-send p cid stays one two called held = pair-send p (other-circuit cid stays) (calls (creating ∷ asked_with cid ∷ [])) refl refl one two called held
 
 -- every part but that of ids on two circuits
 two-rest : (p : Sending) (cid : ℕ) (stays : Bool) → (p ≡ part.IdsApart → ⊥) → MaySend p (two_circuits cid stays)
@@ -806,6 +914,40 @@ cids-shared = (
     | inr free ↦ none-at free.0 free.3 free.5
   ],
 )
+
+-- an ECHO goes out before the channel is asked for
+abbrev later-circuit : Circuit
+later-circuit = circuit (echo ∷ asked_with 2 ∷ []) [] [] []
+
+abbrev later-lines : List Line
+later-lines = calls (creating ∷ asked_with 2 ∷ [])
+
+echo-gives : (b : Id) → Gives echo.message b → ⊥
+echo-gives (Cid n) g = (let e = g.0 in omega (arith, e))
+echo-gives (Ioid n) g = elim g.0 [ inl e ↦ omega (arith, e) | inr e ↦ omega (arith, e) ]
+echo-gives (SubId n) g = (let e = g.0 in omega (arith, e))
+
+later-apart : (n m l k : ℕ) (c d : Circuit) (s r : Sent) (a b : Id) → n < m → At echo_first.circuits n c → At echo_first.circuits m d → At c.up l s → At d.up k r → Gives s.message a → Gives r.message b → SameIndex a b → ⊥
+later-apart n m l k c d s r a b lt at_c at_d at_s at_r gives_s gives_r index = elim (two-at (alone creating) later-circuit m d at_d) [
+  | inl first ↦ (let e = first.0 in omega (arith, lt, e))
+  | inr second ↦ elim (two-at (alone creating) later-circuit n c at_c) [
+    | inr both ↦ (let e = both.0 in let f = second.0 in omega (arith, lt, e, f))
+    | inl first ↦
+        let one : s ≡ creating = (one-at creating l s (subst (λ (v : Circuit). At v.up l s) first.1 at_s)).1 in
+        elim (two-at echo (asked_with 2) k r (subst (λ (v : Circuit). At v.up k r) second.1 at_r)) [
+          | inl e ↦ echo-gives b (subst (λ (z : Sent). Gives z.message b) e.1 gives_r)
+          | inr e ↦ apart-ids a b (subst (λ (z : Sent). Gives z.message a) one gives_s) (subst (λ (z : Sent). Gives z.message b) e.1 gives_r) index
+        ]
+  ]
+]
+
+later-each : (p : Sending) → MaySend p echo_first
+later-each part.IdsApart = pair-send part.IdsApart later-circuit later-lines refl refl (λ n. tt) (λ n. tt) tt (λ n m l k c d s r a b lt at_c at_d same open_c open_d at_s at_r gives_s gives_r index. absurd (later-apart n m l k c d s r a b lt at_c at_d at_s at_r gives_s gives_r index))
+later-each part.HasAdd = pair-send part.HasAdd later-circuit later-lines refl refl (λ n. tt) (λ n. tt) (λ channel number h. absurd (each-at (λ (i : ℕ) (l : Line). l ≡ Called (On channel (Subscribe number)) h.0 → ⊥) later-lines ((λ e. cc), ((λ e. cc), tt)) h.1.0 _ h.1.1 refl)) tt
+later-each p = pair-send p later-circuit later-lines refl refl (λ n. quiet-sent p (alone creating) later-lines temp_there refl) (λ n. quiet-sent p later-circuit later-lines temp_there refl) tt tt
+
+pub cids-later : Legal echo_first
+cids-later = all-legal _ later-each
 
 -- ---- subscriptions
 
@@ -886,11 +1028,14 @@ abbrev cancel-of : Intent → Intent
 cancel-of (On channel (Subscribe number)) = On channel (Cancel number)
 cancel-of i = i
 
-not-standing : (channel number : ℕ) (h : Step) → step 1 3 3 ≡ h → IsStanding (take h.logged cancel_called) (On channel (Subscribe number)) → ⊥
-not-standing channel number h g standing =
-    let s : IsStanding cancel_called (On channel (Subscribe number)) = subst (λ (z : Step). IsStanding (take z.logged cancel_called) (On channel (Subscribe number))) (sym g) standing in
+-- the subscription was cancelled by then
+cancelled-then : (channel number : ℕ) → IsStanding cancel_called (On channel (Subscribe number)) → ⊥
+cancelled-then channel number s =
     let i : On 0 (Cancel 1) ≡ On channel (Cancel number) = ap cancel-of (cancelled-is channel number s.0.1.0 s.0.0 s.0.1.1) in
     s.1.1 (2, subst (λ (d : Intent). At (Opened 0 temp_name ∷ Called (On 0 (Subscribe 1)) (ToWatch 5 1 1) ∷ Called (On 0 (Cancel 1)) Nothing ∷ []) 2 (Called d Nothing)) i refl)
+
+not-standing : (channel number : ℕ) (h : Step) → step 1 3 3 ≡ h → IsStanding (take h.logged cancel_called) (On channel (Subscribe number)) → ⊥
+not-standing channel number h g standing = cancelled-then channel number (subst (λ (z : Step). IsStanding (take z.logged cancel_called) (On channel (Subscribe number))) (sym g) standing)
 
 added-cancelled-rest : (p : Sending) → (p ≡ part.Ended → ⊥) → MaySend p (world (called_at 3 (adding 1 9 ∷ []) ∷ []) cancel_called temp_there)
 unfolding number16
@@ -967,3 +1112,34 @@ not-added-again-rest p ne = quiet-sends p (live_again []) subscribe_called temp_
 
 pub not-added-again : SendsWrong part.Anew (world (live_again [] ∷ []) subscribe_called temp_there)
 not-added-again = (not-added-again-rest, λ h. (let a = its-sent part.Anew (live_again []) subscribe_called temp_there refl refl h.0 0 2 1 (step 3 2 2) (1, 6, created_again, (asked_again, refl, refl), refl, refl, refl, (refl, refl), refl) ((ToWatch 5 1 1, (1, refl)), (held-yet 0 1).0, (held-yet 0 1).1) in let m = a.2 in let w = At-within (live_again []).up a.0 m.0 m.1 in let late = a.1 in omega (arith, w, late)))
+
+-- it was cancelled before the channel was live again
+added-between : (k channel number : ℕ) (h : Step) → BecomesLive cancelled_between channel k h → IsStanding (take h.logged cancel_called) (On channel (Subscribe number)) → AddedAfter cancelled_between k channel number h
+added-between k channel number h live standing =
+    each-at (λ (j : ℕ) (t : Told). (g : Step) → t.place ≡ k → At (step 1 2 2 ∷ step 3 3 3 ∷ []) j g → IsStanding (take g.logged cancel_called) (On channel (Subscribe number)) → AddedAfter cancelled_between k channel number g) (created_told ∷ created_again ∷ []) (
+      (λ g place at stands.
+          (let here : step 1 2 2 ≡ g = some_is (step 1 2 2) g at in
+          let is = called-is channel number stands.0.1.0 stands.0.0 (subst (λ (z : Step). At (take z.logged cancel_called) stands.0.1.0 (Called (On channel (Subscribe number)) stands.0.0)) (sym here) stands.0.1.1) in
+          subst (λ (z : Step). AddedAfter cancelled_between k channel number z) here (subst (λ (n : ℕ). AddedAfter cancelled_between n channel number (step 1 2 2)) place (1, omega arith, (adding 1 9, refl, is), λ p a b. absurd (omega (arith, a, b)))))),
+      ((λ g place at stands. absurd (cancelled-then channel number (subst (λ (z : Step). IsStanding (take z.logged cancel_called) (On channel (Subscribe number))) (sym (some_is (step 3 3 3) g at)) stands))), tt),
+    ) live.0 live.2 live.4 h live.5 live.8 standing
+
+held-between : (channel k l number : ℕ) (h : Step) → BecomesLive cancelled_between channel k h → k < l → Meant cancelled_between l (On channel (Subscribe number))
+    → IsHeld (take h.logged cancel_called) (On channel (Subscribe number)) × ((o : Outcome) → In (take h.logged cancel_called) (Noticed (On channel (Subscribe number)) o) → ⊥)
+held-between channel k l number h live lt meant =
+    let one : l ≡ 1 = each-at (λ (i : ℕ) (z : Sent). z.intent ≡ On channel (Subscribe number) → i ≡ 1) (creating ∷ adding 1 9 ∷ asked_again ∷ []) ((λ e. absurd cc), ((λ e. refl), ((λ e. absurd cc), tt))) l meant.0 meant.1 meant.2 in
+    each-at (λ (j : ℕ) (t : Told). (g : Step) → t.place ≡ k → At (step 1 2 2 ∷ step 3 3 3 ∷ []) j g → IsHeld (take g.logged cancel_called) (On channel (Subscribe number)) × ((o : Outcome) → In (take g.logged cancel_called) (Noticed (On channel (Subscribe number)) o) → ⊥)) (created_told ∷ created_again ∷ []) (
+      (λ g place at. subst (λ (z : Step). IsHeld (take z.logged cancel_called) (On channel (Subscribe number)) × ((o : Outcome) → In (take z.logged cancel_called) (Noticed (On channel (Subscribe number)) o) → ⊥)) (some_is (step 1 2 2) g at) (held-yet channel number)),
+      ((λ g place at. absurd (let two : 2 ≡ k = place in omega (arith, two, one, lt))), tt),
+    ) live.0 live.2 live.4 h live.5 live.8
+
+cancelled-between-each : (p : Sending) → MaySend p (world (cancelled_between ∷ []) cancel_called temp_there)
+unfolding number16
+cancelled-between-each part.OnChannel = sends part.OnChannel cancelled_between cancel_called temp_there refl refl (λ k m at o. each-at (λ (i : ℕ) (z : Fields). IsOnChannel z → SentOn cancelled_between i z) (client_conduct cancelled_between).sent ((λ f. absurd (let e : false ≡ true = on-channel-so creating.message f in cc)), ((λ f. on-sid (client_conduct cancelled_between) 1 refl refl refl (omega arith) refl refl 1 (adding 1 9).message refl (omega arith) refl), ((λ f. absurd (let e : false ≡ true = on-channel-so asked_again.message f in cc)), tt))) k m at o) tt
+cancelled-between-each part.HasAdd = sends part.HasAdd cancelled_between cancel_called temp_there refl refl tt (λ channel number h. (0, 1, (cancelled_between, refl, refl, (adding 1 9, refl, cancelled-is channel number h.1.0 h.0 h.1.1))))
+cancelled-between-each part.Anew = sends part.Anew cancelled_between cancel_called temp_there refl refl (λ channel k number h live standing. added-between k channel number h live standing) tt
+cancelled-between-each part.Ended = sends part.Ended cancelled_between cancel_called temp_there refl refl (λ channel k l number h live lt meant. held-between channel k l number h live lt meant) tt
+cancelled-between-each p = quiet-sends p cancelled_between cancel_called temp_there refl refl refl
+
+pub cancelled-between : Legal (world (cancelled_between ∷ []) cancel_called temp_there)
+cancelled-between = all-legal _ cancelled-between-each

@@ -7,13 +7,13 @@ use Rattle.ca_dbr.specs.Elements.{Elements, longs, base_of}
 use Rattle.ca_dbr.specs.declared.value.Outcome.{Outcome}
 use Rattle.ca_records.specs.Record.{RecordState}
 use Rattle.ca_wire.specs.Fields.{Fields}
-use Rattle.ca_model.specs.Speech.{Stored, Id}
-use Rattle.ca_model.specs.History.{Create, On, Intent, Sent, Told, Step, Circuit, Entry, Line, World, Added, Opened, Subscribe, Update, Updated, Cause, GaveUp, Reply, Removal}
+use Rattle.ca_model.specs.Speech.{In, Stored, Id}
+use Rattle.ca_model.specs.History.{Create, On, Intent, Sent, Told, Step, Circuit, Entry, Line, World, Added, Removed, Opened, Subscribe, Update, Updated, Cause, GaveUp, Reply, Removal}
 use Rattle.ca_model.specs.Channels.{before}
 use Rattle.ca_model_examples.specs.Worlds.{adding, reply, created_told, AnyDue, creating, long, step, temp, temp_name, world}
 use Rattle.ca_model_examples.specs.Parts.{FieldOf, Part, Holds, BreaksOnly, IsSafeNow, InCircuit}
 use Rattle.ca_model_examples.specs.Parts as part
-use Rattle.ca_model_examples.specs.Unsafe.{both_updated, opened, posted, saw, subscribed, subscriber, temp_there, updated}
+use Rattle.ca_model_examples.specs.Unsafe.{both_updated, opened, posted, saw, subscribed, subscriber, temp_removed, temp_there, updated}
 use Rattle.ca_model_examples.proofs.Lists.{Each, each-at, one-at, two-at}
 use Rattle.ca_model_examples.proofs.Quiet.{none, quiet, holds, whole, is_called}
 use Rattle.ca_model_examples.proofs.Shown.{answered-by, answered-each, caused-each, taken-each}
@@ -21,7 +21,7 @@ use Rattle.ca_model.specs.Headline.{Follows, Reads}
 use Rattle.ca_model.specs.Causes.{TakesOwn}
 use Rattle.ca_model.specs.Updates.{Shows}
 use Rattle.ca_requests.specs.Meaning.{Means}
-use Rattle.ca_model_examples.proofs.Names.{its-part}
+use Rattle.ca_model_examples.proofs.Names.{its-part, was-there}
 use Rattle.ca_model_examples.proofs.Opened.{created-here, created-own, open-here, takes-cid}
 use Rattle.ca_model_examples.proofs.Speaks.{heads, of-update}
 use Rattle.ca_model_examples.proofs.Creations.{number-of, only-added}
@@ -70,6 +70,10 @@ added-in i q s at = ap number-of (sym (one-at (Added 0 temp) i (Added q s) at).1
 -- the second of two entries is a post
 posted-in : (i q : ℕ) (s : RecordState) → At posted i (Added q s) → 0 ≡ q
 posted-in i q s at = each-at (λ (k : ℕ) (e : Entry). e ≡ Added q s → 0 ≡ q) posted ((λ e. ap number-of e), ((λ e. absurd cc), tt)) i _ at refl
+
+-- and so is a removal
+removed-in : (i q : ℕ) (s : RecordState) → At temp_removed i (Added q s) → 0 ≡ q
+removed-in i q s at = each-at (λ (k : ℕ) (e : Entry). e ≡ Added q s → 0 ≡ q) temp_removed ((λ e. ap number-of e), ((λ e. absurd cc), tt)) i _ at refl
 
 -- An accepted EVENT_ADD is the one at place 1, handled on TEMP.
 module _ (c : Circuit) (y : List Entry) (up : c.up ≡ creating ∷ adding 0 9 ∷ []) (handled : c.handled ≡ step 0 1 1 ∷ step 1 1 1 ∷ []) (only : (i q : ℕ) (s : RecordState) → At y i (Added q s) → 0 ≡ q) where
@@ -188,6 +192,26 @@ sub-lost-rest p ne = quiet AnyDue p unsent opened temp_there refl refl refl refl
 
 pub sub-lost : BreaksOnly part.Newest (world (unsent ∷ []) opened temp_there)
 sub-lost = (sub-lost-rest, λ h. (let n = its-part part.Newest unsent opened temp_there refl refl h.0 1 0 (adding 0 9) (step 1 1 1) (0, 0, refl, refl, refl, (adding 0 9, step 1 1 1, 0, 0, refl, refl, open-here (before unsent 1 (step 1 1 1)) (take 1 temp_there) (created-here (before unsent 1 (step 1 1 1)) (take 1 temp_there) refl refl refl refl (only-added (Added 0 temp ∷ []) 0 refl)) refl refl), λ j t at place cause. each-at (λ (i : ℕ) (u : Told). u.place ≡ 1 → u.cause ≡ Reply → ⊥) (unsent).down ((λ p e. omega (arith, p)), tt) j t at place cause) sub-lasts in each-at (λ (k : ℕ) (z : ℕ × Cause). z ≡ (1, Update n.0) → ⊥) (updates unsent) ((λ e. (let f = ap (λ (z : ℕ × Cause). z.0) e in omega (arith, f))), tt) n.1.0 _ n.1.1 refl))
+
+-- no update is sent, and none waits
+not-updated : (k a i : ℕ) → At (updates unsent) i (k, Update a) → ⊥
+not-updated k a i at = each-at (λ (m : ℕ) (z : ℕ × Cause). z ≡ (k, Update a) → ⊥) (updates unsent) ((λ e. (let f : Reply ≡ Update a = ap (λ (z : ℕ × Cause). z.1) e in cc)), tt) i _ at refl
+
+sub-removed-each : (p : Part) → Holds AnyDue p (world (unsent ∷ []) opened temp_removed)
+sub-removed-each part.Acts = holds AnyDue part.Acts unsent opened temp_removed refl refl (λ k channel ask early meant other. acts-by unsent (adding 0 9) opened temp_removed refl refl (adding 0 9, step 1 1 1, 0, 0, refl, refl, open-here (before unsent 1 (step 1 1 1)) (take 1 temp_removed) (created-here (before unsent 1 (step 1 1 1)) (take 1 temp_removed) refl refl refl refl (only-added (Added 0 temp ∷ []) 0 refl)) refl refl) (temp, (0, refl), (0, refl)) k channel ask meant other) tt tt
+sub-removed-each part.Refused = holds AnyDue part.Refused unsent opened temp_removed refl refl (λ k j r m s h here at uses acted handled gone. absurd (each-at (λ (i : ℕ) (g : Step). In (take g.logged temp_removed) (Removed r) → ⊥) (unsent).handled (only-added (Added 0 temp ∷ []) r refl, (only-added (Added 0 temp ∷ []) r refl, tt)) k h handled gone)) tt tt
+sub-removed-each part.WasThere = holds AnyDue part.WasThere unsent opened temp_removed refl refl (was-there [] refl) tt tt
+sub-removed-each part.Caused = caused-each unsent opened temp_removed refl refl ((tt, (step 0 1 1, refl, omega arith)), tt)
+sub-removed-each part.Own = taken-each unsent opened temp_removed refl refl ((created-own unsent 0 (takes-cid unsent 0 0 creating refl refl refl (omega arith) refl)), tt)
+sub-removed-each part.Answered = answered-each unsent opened temp_removed refl refl ((answered-by unsent temp_removed 0 (step 0 1 1) creating (created_told.message ∷ []) [] refl (refl, tt) tt refl ((λ p e. omega arith), tt) ((λ l. absurd (omega (arith, l))), ((λ l. omega arith), tt))), ((answered-by unsent temp_removed 1 (step 1 1 1) (adding 0 9) [] [] refl tt tt refl ((λ p e. absurd (omega (arith, p))), tt) ((λ l. absurd (omega (arith, l))), ((λ l. absurd (omega (arith, l))), tt))), tt))
+sub-removed-each part.Rising = holds AnyDue part.Rising unsent opened temp_removed refl refl (λ k r s h b i j a d lt p q. absurd (not-updated k a i p)) tt tt
+sub-removed-each part.Matches = holds AnyDue part.Matches unsent opened temp_removed refl refl (λ k r s h b a g. absurd (not-updated k a g.0 g.1)) tt tt
+sub-removed-each part.ShowsPost = holds AnyDue part.ShowsPost unsent opened temp_removed refl refl (λ k r s h b j a t at place cause. absurd (each-at (λ (i : ℕ) (u : Told). u.cause ≡ Update a → ⊥) (unsent).down ((λ e. cc), tt) j t at cause)) tt tt
+sub-removed-each part.Newest = holds AnyDue part.Newest unsent opened temp_removed refl refl (λ k r s h b lasts. absurd (lasts.1 (1, subst (λ (n : ℕ). At temp_removed 1 (Removed n)) (acted-record unsent temp_removed k r removed-in b.5) refl))) tt tt
+sub-removed-each p = quiet AnyDue p unsent opened temp_removed refl refl refl refl refl
+
+pub sub-removed : IsSafeNow (world (unsent ∷ []) opened temp_removed)
+sub-removed = whole AnyDue _ sub-removed-each
 
 -- ---- what the subscriber is told
 

@@ -13,7 +13,7 @@ use Rattle.ca_model.specs.History.{Nothing, ToRead, ToWatch, ToWrite, Wish}
 use Rattle.ca_model_examples.specs.Worlds.{adding, circuit, clearing, created_told, creating}
 use Rattle.ca_model_examples.specs.Worlds.{disconnected, long, reading, reply, step, temp_name}
 use Rattle.ca_model_examples.specs.Worlds.{wanted, world}
-use Rattle.ca_model_examples.specs.Unsafe.{cancelling, echo, opened, temp_there, updated}
+use Rattle.ca_model_examples.specs.Unsafe.{cancelling, echo, opened, temp_there, updated, value_21}
 
 -- the client read the creation's reply after it had sent its CREATE_CHAN
 abbrev pub created_read : Step
@@ -57,6 +57,12 @@ reads_out ioid =
     (created_told ∷ reply 0 (rights_reply (create_request 1 temp_name) 1) ∷ []) []
     (created_read ∷ step 2 0 0 ∷ [])
 
+-- Another read goes out with the IOID of the first, whose reply was read after `sent` messages.
+abbrev pub reread_after : ℕ → Circuit
+reread_after sent =
+    circuit (creating ∷ reading 0 7 ∷ reading 1 7 ∷ []) (created_told ∷ reply 1 value_21 ∷ []) []
+    (created_read ∷ step sent 0 0 ∷ [])
+
 -- A subscription is cancelled, another goes out under its id, and the confirmation was read
 -- after `sent` messages.
 abbrev pub added_after : ℕ → Circuit
@@ -72,6 +78,13 @@ asked_after sent =
     circuit (creating ∷ clearing ∷ asked_with 1 ∷ [])
     (created_told ∷ reply 1 (cleared_reply clearing.message) ∷ []) []
     (created_read ∷ step sent 0 0 ∷ [])
+
+-- A read goes out in place of the clear, with the CID as its IOID.
+abbrev pub never_cleared : Circuit
+never_cleared =
+    circuit (creating ∷ reading 0 1 ∷ asked_with 1 ∷ [])
+    (created_told ∷ reply 1 (cleared_reply clearing.message) ∷ []) []
+    (created_read ∷ step 2 0 0 ∷ [])
 
 -- Two channels are created, the other one under this SID.
 abbrev pub both_created : ℕ → Circuit
@@ -141,6 +154,10 @@ added_again =
       intent = On 0 (Subscribe 1);
     }
 
+-- The subscription was cancelled before the channel was live again.
+abbrev pub cancelled_between : Circuit
+cancelled_between = record (live_again []) { heard = step 1 2 2 ∷ step 3 3 3 ∷ [] }
+
 -- the call of a message that is meant so: a read is of one LONG, and so is a subscription, for
 -- VALUE; a write is of 22, and a channel is to TEMP
 abbrev pub call_of : Intent → List Line
@@ -191,6 +208,12 @@ abbrev pub two_circuits : ℕ → Bool → World
 two_circuits cid stays =
     world (alone creating ∷ record (alone (asked_with cid)) { client_open = stays } ∷ [])
     (calls (creating ∷ asked_with cid ∷ [])) temp_there
+
+-- An ECHO goes out on the other circuit before its channel is asked for.
+abbrev pub echo_first : World
+echo_first =
+    world (alone creating ∷ circuit (echo ∷ asked_with 2 ∷ []) [] [] [] ∷ [])
+    (calls (creating ∷ asked_with 2 ∷ [])) temp_there
 
 -- Subscription 1 was called alone.
 abbrev pub subscribed_in : Circuit → World

@@ -16,7 +16,9 @@ ghost use Rattle.ca_model_examples.specs.Illegal.{called_in, calls, cancel_calle
 ghost use Rattle.ca_model_examples.specs.Illegal.{confirm_out, created_read, write_called};
 ghost use Rattle.ca_model_examples.specs.Illegal.{goes_out, live_again, read_out, reads_out, alone};
 ghost use Rattle.ca_model_examples.specs.Illegal.{writing, unasked, sent_in, subscribed_in};
-ghost use Rattle.ca_model_examples.specs.Illegal.{added_after, asked_after, refused_out};
+ghost use Rattle.ca_model_examples.specs.Illegal.{added_after, asked_after, never_cleared};
+ghost use Rattle.ca_model_examples.specs.Illegal.{cancelled_between, echo_first, reread_after};
+ghost use Rattle.ca_model_examples.specs.Illegal.{refused_out};
 ghost use Rattle.ca_model_examples.specs.Illegal.{read_for, two_circuits, watch_for};
 ghost use Rattle.ca_model_examples.specs.Illegal.{told_closed, told_so, uncalled_in, update_out};
 
@@ -27,8 +29,9 @@ pub fn the_parts_are_all_that_is_legal()
 {}
 
 /// A read goes out once it was called and the creation's reply was read; a cancel is for an
-/// EVENT_ADD; and two ids of a kind that are in use have two indexes. A confirmation that was read
-/// before the cancel was sent frees no id, nor does the reply to a clear that was not sent by then.
+/// EVENT_ADD; and two ids of a kind that are in use have two indexes. A reply that was read before
+/// the read was sent frees no id, nor does a confirmation that was read before the cancel was sent,
+/// nor the reply to a clear that was not sent by then, whatever else was.
 pub fn what_a_client_may_send()
     ensures read { Legal (sent_in (read_out (created_read ∷ []))) }
     ensures read_uncalled { SendsWrong HasCall (uncalled_in (read_out (created_read ∷ []))) }
@@ -45,10 +48,13 @@ pub fn what_a_client_may_send()
     ensures reads { Legal (sent_in (reads_out 8)) }
     ensures id_reused { SendsWrong Ids (sent_in (reads_out 7)) }
     ensures id_shared { SendsWrong Ids (sent_in (both_asked 1)) }
+    ensures answered { Legal (sent_in (reread_after 2)) }
+    ensures answered_before { SendsWrong Ids (sent_in (reread_after 1)) }
     ensures cancelled { Legal (sent_in (added_after 3)) }
     ensures confirmed_before { SendsWrong Ids (sent_in (added_after 2)) }
     ensures cleared { Legal (sent_in (asked_after 2)) }
     ensures cleared_before { SendsWrong Ids (sent_in (asked_after 1)) }
+    ensures never_cleared { SendsWrong Ids (sent_in never_cleared) }
 {}
 
 /// What goes out for a channel was called: a write with its value, a cancel, a clear, unless it
@@ -89,9 +95,11 @@ pub fn what_goes_out_asks_for_what_its_call_did()
         (called_in (watch_for (ToWatch 5 1 4)) (goes_out (adding 0 9 ∷ []))) }
 {}
 
-/// Two ids of one index are not in use on two circuits of one client whose ends there are open.
+/// Two ids of one index are not in use on two circuits of one client whose ends there are open. Two
+/// of two indexes may be, whatever goes out before.
 pub fn ids_are_in_use_on_one_circuit()
     ensures apart { Legal (two_circuits 2 true) }
+    ensures apart_later { Legal echo_first }
     ensures shared { SendsWrong IdsApart (two_circuits 1 true) }
     ensures ended { Legal (two_circuits 1 false) }
 {}
@@ -124,7 +132,8 @@ pub fn what_must_be_sent()
 {}
 
 /// A subscription has an EVENT_ADD if it was called, and only then: one for each creation of its
-/// channel after which that is live, and none once it was cancelled.
+/// channel after which that is live, and none once it was cancelled, also if the channel is live
+/// again.
 pub fn a_subscription_has_one_event_add()
     ensures two { Legal (sent_in (goes_out (adding 0 9 ∷ adding 1 10 ∷ []))) }
     ensures uncalled { SendsWrong HasCall
@@ -138,4 +147,5 @@ pub fn a_subscription_has_one_event_add()
         (world (called_at 3 (adding 1 9 ∷ []) ∷ []) cancel_called temp_there) }
     ensures again { Legal (subscribed_in (live_again (added_again ∷ []))) }
     ensures not_again { SendsWrong Anew (subscribed_in (live_again [])) }
+    ensures cancelled_between { Legal (world (cancelled_between ∷ []) cancel_called temp_there) }
 {}

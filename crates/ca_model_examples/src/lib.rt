@@ -76,6 +76,7 @@ pub use illegal_worlds::ids_are_in_use_on_one_circuit;
 pub use illegal_worlds::the_parts_are_all_that_is_legal;
 pub use illegal_worlds::what_a_client_may_send;
 pub use illegal_worlds::what_a_server_may_send;
+pub use illegal_worlds::what_goes_out_asks_for_what_its_call_did;
 pub use illegal_worlds::what_goes_out_was_called;
 pub use illegal_worlds::what_must_be_sent;
 pub use owed_worlds::a_creation_refused_for_nothing_is_unsafe;

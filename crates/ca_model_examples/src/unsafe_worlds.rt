@@ -189,8 +189,8 @@ pub fn a_put_is_told_as_it_went()
         (world (put_read (status_of 160) 2 ∷ []) (put_told fails) put_made) }
 {}
 
-/// The updates of an EVENT_ADD rise, are of posts that there are, show them, and have the newest.
-/// One that a reply refused has none.
+/// The updates of an EVENT_ADD rise, are of posts that there are, show them, and have the newest
+/// while its record is there. One that a reply refused has none.
 pub fn updates_follow_their_record()
     ensures followed { IsSafeNow (of_created (subscribed (updated 0 21 ∷ []) []) [] temp_there) }
     ensures repeated { BreaksOnly Rising
@@ -200,6 +200,7 @@ pub fn updates_follow_their_record()
     ensures another_value { BreaksOnly ShowsPost
         (of_created (subscribed (updated 0 22 ∷ []) []) [] temp_there) }
     ensures none { BreaksOnly Newest (of_created (subscribed [] []) [] temp_there) }
+    ensures removed { IsSafeNow (of_created (subscribed [] []) [] temp_removed) }
     ensures refused { BreaksOnly Caused
         (of_created (subscribed (reply 1 (updated 0 21).message ∷ updated 0 21 ∷ []) []) []
         temp_there) }
