@@ -50,7 +50,7 @@ use Rattle.ca_world.specs.Finishing.{AreBehind, Ends, Finished, FinishesAt, HasR
 use Rattle.ca_world.specs.Whole.{IsReached}
 use Rattle.ca_world.proofs.Additions.{others-apart}
 use Rattle.ca_world.proofs.Postings.{each-under, ending-keeps, posted-keeps, served-posted}
-use Rattle.ca_world.proofs.Unstamped.{run-unstamped}
+use Rattle.ca_world.proofs.Counted.{run-unstamped}
 use Rattle.ca_world_data.specs.declared.client.ClientSide.{ClientSide}
 use Rattle.ca_world_data.specs.declared.history.LogEntry.{LogEntry}
 use Rattle.ca_world_data.specs.declared.joined.Joined.{Joined}

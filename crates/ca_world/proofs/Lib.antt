@@ -8,7 +8,7 @@ pub mod Subscribing
 pub mod Cancellings
 pub mod Downward
 pub mod Reported
-pub mod Unstamped
+pub mod Counted
 pub mod Finishings
 pub mod Cuttings
 pub mod Collecting

@@ -1,5 +1,5 @@
 -- Every event keeps that each handle means what is beside it.
-use Rattle.std.proofs.Common.{◌≡◌, ℕ, zero, suc, ◌+◌, inl, inr, Bool, true, false, cond, drop, List, [], ◌∷◌, ◌++◌, length, Option, Some, None, Ok, refl, sym, ◌∙◌, subst}
+use Rattle.std.proofs.Common.{◌≡◌, ℕ, zero, suc, ◌+◌, inl, inr, Bool, true, false, cond, drop, List, [], ◌∷◌, ◌++◌, length, Option, Some, None, Ok, refl, sym, ap, ◌∙◌, subst, arith}
 use Rattle.std.specs.Prelude.{option_map, slice_get, slice_set, unwrap_or}
 use Rattle.std.specs.List.{FoldsTo}
 use Rattle.ca_arena.specs.declared.handle.Handle.{Handle}
@@ -203,10 +203,12 @@ mean-happens w new (event.Tick moment) c q all h = (let t = h.1 in subst (λ (v 
 
 -- ---- a world before any event
 
-pub at-numbered : {A B : Type 0} (n : ℕ) (f : ℕ → A → B) (xs : List A) (i : ℕ) (y : B) → At (numbered n f xs) i y → (m : ℕ) × (x : A) × (y ≡ f m x)
+pub at-numbered : {A B : Type 0} (n : ℕ) (f : ℕ → A → B) (xs : List A) (i : ℕ) (y : B) → At (numbered n f xs) i y → (x : A) × At xs i x × (y ≡ f (n + i) x)
 at-numbered n f [] i y at = absurd cc
-at-numbered n f (x ∷ xs) zero y at = (n, x, sym (some_is (f n x) y at))
-at-numbered n f (x ∷ xs) (suc i) y at = at-numbered (n + 1) f xs i y at
+at-numbered n f (x ∷ xs) zero y at = (x, refl, sym (some_is (f n x) y at) ∙ ap (λ (m : ℕ). f m x) (let same : n ≡ n + 0 = omega arith in same))
+at-numbered n f (x ∷ xs) (suc i) y at =
+    let r = at-numbered (n + 1) f xs i y at in
+    (r.0, r.1, r.2 ∙ ap (λ (m : ℕ). f m r.0) (let same : n + 1 + i ≡ n + suc i = omega arith in same))
 
 pub mean-opening : (setting : Setting) → AreMeant (opening setting).clients
 mean-opening setting i x at =

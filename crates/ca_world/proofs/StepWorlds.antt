@@ -51,7 +51,7 @@ use Rattle.ca_world.proofs.Postings.{ending-keeps, posted-keeps, run-alike}
 use Rattle.ca_world.proofs.Rests.{run-comes}
 use Rattle.ca_world.proofs.Seating.{run-seated}
 use Rattle.ca_world.proofs.StepLaws.{step-happens}
-use Rattle.ca_world.proofs.Unstamped.{run-unstamped}
+use Rattle.ca_world.proofs.Counted.{run-unstamped}
 
 -- ---- records
 

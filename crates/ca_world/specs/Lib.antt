@@ -1,6 +1,7 @@
 pub mod Whole
 pub mod Reported
 pub mod Unstamped
+pub mod Counted
 pub mod Finishing
 pub mod ServerPumps
 pub mod Halted

@@ -6,6 +6,7 @@ ghost use Rattle.ca_dbr.specs.Elements.{elements};
 ghost use Rattle.ca_records.specs.Record.{unset};
 ghost use Rattle.ca_model.specs.Events as event;
 ghost use Rattle.ca_world.specs.Adding.{AddsAt, AreInOrder, Settles, StandsBehind};
+ghost use Rattle.ca_world.specs.Counted.{HasEntries};
 ghost use Rattle.ca_world_data.specs.Does.{Does};
 ghost use Rattle.ca_world_data.specs.Opening.{entries_in};
 ghost use Rattle.ca_world_data.specs.Seen.{record_of, server_of};
@@ -74,7 +75,8 @@ fn add_at(
     slow: bool,
     value: Value,
 ) -> Result<(), Refusal>
-    requires { AreInOrder side.old.core.records (map record_of side.old.records.items) }
+    requires order { AreInOrder side.old.core.records (map record_of side.old.records.items) }
+    requires counted { HasEntries (server_of side.old) (entries_in logs.old.items) }
     ensures adds { AddsAt
         (record {
           name = name.now;
@@ -103,7 +105,8 @@ fn add_counted(
     slow: bool,
     value: Value,
 ) -> Result<(), Refusal>
-    requires { AreInOrder side.old.core.records (map record_of side.old.records.items) }
+    requires order { AreInOrder side.old.core.records (map record_of side.old.records.items) }
+    requires counted { HasEntries (server_of side.old) (entries_in logs.old.items) }
     ensures adds { AddsAt
         (record {
           name = name.now;
@@ -129,15 +132,12 @@ fn add_counted(
     let begun = begin_record(alloc, name, side.added)?;
     side.records.reserve(1)?;
     reserve_entries(logs, side.life, 1)?;
-    let Some(added) = side.added.checked_add(1) else {
-        return Err(Refusal::OutOfMemory);
-    };
     match side.core.add_record(name, count, slow, value) {
         Ok(()) => {
             let number = side.added;
             let behind = count_before(&side.core, &side.records, name);
             put_in(&mut side.records, behind, begun);
-            side.added = added;
+            side.added += 1;
             push_entry(logs, side.life, LogEntry::Added(number, told));
             Ok(())
         }

@@ -14,6 +14,7 @@ ghost use Rattle.ca_model.specs.History as history;
 ghost use Rattle.ca_model.specs.ServerEvents.{about};
 ghost use Rattle.ca_wire.specs.Fields.{Fields};
 ghost use Rattle.ca_world_servers.specs.Losing.{AreSeated};
+ghost use Rattle.ca_world.specs.Counted.{HasEntries};
 ghost use Rattle.ca_world.specs.Reported.{HasReported};
 ghost use Rattle.ca_world.specs.Resting.{ComesUp, StepsOrRests};
 ghost use Rattle.ca_world.specs.ServerStepping.{StepsAt, with_lists};
@@ -39,7 +40,7 @@ use crate::resting::may_take;
 use crate::world::World;
 use ca_arena::Handle;
 use ca_server_core::{CoreStep as Did, Effect, ServerCore};
-use ca_text::{APPLIED_LIMIT, Refusal};
+use ca_text::Refusal;
 use ca_wire::Pipe;
 use ca_world_data::ends::ends_at;
 use ca_world_data::history::{LogEntry, Step, Told};
@@ -127,6 +128,7 @@ fn step_or_rest(
         → At (map joined_of circuits.old.items) circuit j
         → MayBegin server side.old.core j (map joined_of circuits.old.items)
         (map record_of side.old.records.items) }
+    requires counted { HasEntries (server_of side.old) (entries_in logs.old.items) }
     requires comes { (j : model.Joined)
         → At (map joined_of circuits.old.items) circuit j → ComesUp waiting side.old.core j }
     ensures { StepsOrRests
@@ -169,6 +171,7 @@ fn step_at(
         → At (map joined_of circuits.old.items) circuit j
         → MayBegin server side.old.core j (map joined_of circuits.old.items)
         (map record_of side.old.records.items) }
+    requires counted { HasEntries (server_of side.old) (entries_in logs.old.items) }
     ensures { StepsServer
         circuit
         side.old
@@ -183,11 +186,6 @@ fn step_at(
     let ahead = next_ahead(alloc, &side.core, &circuits[circuit], &mut side.records)?;
     check_write(circuits, &ahead.write)?;
     reserve_reports(logs, side.life, &side.records, 2)?;
-    let applied = side.core.applied();
-    // The count of writes stays at its limit, so that a step there would not tell whether it wrote.
-    if applied >= APPLIED_LIMIT {
-        return Err(Refusal::OutOfMemory);
-    }
     let at = circuits[circuit].at_server;
     let turn = SteppingEnd {
         alloc,
@@ -195,7 +193,7 @@ fn step_at(
         server,
         at,
         waited: side.core.out_bytes(at).len(),
-        applied,
+        applied: side.core.applied(),
     };
     step_end(&turn, side, circuits, logs, ahead);
     Ok(())

@@ -1,8 +1,9 @@
 //! A client writes without a reply: as `read.rt`, with a WRITE, and with the value in the log. The
-//! core gives no handle for it, so the world counts these writes.
+//! core gives no handle for it, so the world counts these writes, of which each has a line there.
 ghost use Rattle.std.specs.Prelude.{◌≡◌, map};
 ghost use Rattle.ca_dbr.specs.Elements.{elements};
 ghost use Rattle.ca_model.specs.Events as event;
+ghost use Rattle.ca_world.specs.Counted.{HasLines};
 ghost use Rattle.ca_world_data.specs.Does.{Does};
 ghost use Rattle.ca_world_data.specs.Found.{AreNumbered};
 ghost use Rattle.ca_world_data.specs.Logs.{lines_in};
@@ -57,6 +58,7 @@ fn write_on(
         side.old.circuits.items
         (map joined_of circuits.old.items)
         client }
+    requires counted { HasLines (client_of side.old) (lines_in logs.old.items) }
     ensures writes { WritesOn client channel
         (elements value.now)
         (client_of side.old)
@@ -72,10 +74,6 @@ fn write_on(
     let own = value_again(alloc, value)?;
     let payload = put_payload(alloc, value)?;
     let number = side.names.writes;
-    // Each write that was accepted has a line in the log, so that this number is never reached.
-    if number == usize::MAX {
-        return Err(Refusal::OutOfMemory);
-    }
     match side.core.write(handle, value) {
         Ok(()) => {
             let meant = Intent::On(channel, Ask::Request(Kind::Write, number));

@@ -1,5 +1,6 @@
-use Rattle.std.proofs.Common.{◌≡◌, ℕ, ◌<◌, List, length, refl, sym, ap, subst}
+use Rattle.std.proofs.Common.{◌≡◌, ℕ, ◌<◌, List, length, refl, sym, ap, subst, arith}
 use Rattle.std.specs.Prelude.{map, slice_set}
+use Rattle.ca_text.specs.Limits.{applied_limit}
 use Rattle.ca_text.specs.Place.{At}
 use Rattle.ca_text.proofs.Places.{At-map, At-one}
 use Rattle.ca_model.specs.World as model
@@ -13,6 +14,7 @@ use Rattle.ca_world_data.proofs.Worlds.{found}
 use Rattle.ca_world_servers.specs.Handling.{HasRoomToNote}
 use Rattle.ca_world.specs.StepParts.{IsAheadOf}
 use Rattle.ca_world.specs.declared.server_step.SteppingEnd.{SteppingEnd}
+use Rattle.ca_world.proofs.Counted.{few-entries}
 use Rattle.ca_world.proofs.Downward.{at-set}
 use Rattle.ca_world.proofs.StepCloses.{lacks-kept, may-step, read-one, steps-whole}
 use Rattle.ca_world.proofs.server_step.step_at.Goals as goal
@@ -74,19 +76,6 @@ returns-in_err-reserve_reports c =
     let side : server_of z ≡ server_of y = ap (λ (rs : List model.RecordSide). record (server_of y) { records = rs }) c.next_ahead.ensures.same in
     lacks-kept k y z (map joined_of ks) (map joined_of (slice_set ks k new)) (entries_in c.args.logs.now.items) (entries_in c.reserve_reports.new.logs.items) c.from_residual-in_err-reserve_reports.result c.from_residual-in_err-reserve_reports.ensures.1 side refl joins c.reserve_reports.ensures.same
 
-pub returns-then-applied-ge-APPLIED_LIMIT : goal.returns-then-applied-ge-APPLIED_LIMIT
-returns-then-applied-ge-APPLIED_LIMIT c =
-    let y : ServerSide = c.args.side.now in
-    let k : ℕ = c.args.circuit in
-    let ks : List Joined = c.args.circuits.now.items in
-    let x : Joined = c.index_mut.result.now in
-    let new : Joined = c.reserve_handled.new.joined in
-    let within : k < length ks = subst (λ (n : ℕ). k < n) c.args.circuits.now.ok.0 c.requires.within in
-    let there : At ks k x = found ks k x x within c.index_mut.ensures.value in
-    let joins : map joined_of (slice_set ks k new) ≡ map joined_of ks = numbers-set joined_of ks k x new there c.reserve_handled.ensures.same in
-    let side = ap (λ (rs : List model.RecordSide). record (server_of y) { records = rs }) c.next_ahead.ensures.same in
-    (side, refl, joins, c.reserve_reports.ensures.same)
-
 pub step_end-requires-clause-may : goal.step_end-requires-clause-may
 step_end-requires-clause-may c =
     let y : ServerSide = c.args.side.now in
@@ -100,9 +89,11 @@ step_end-requires-clause-may c =
     let first : c.index.result.now ≡ new = read-one ks k x new c.index.result.now _ there c.index.ensures in
     let second : c.index-2.result.now ≡ new = read-one ks k x new c.index-2.result.now _ there c.index-2.ensures in
     let known = subst (λ (j : Joined). IsAheadOf y.core (joined_of j) (map record_of y.records.items) c.in_ok-ahead.ahead) first c.in_ok-ahead.ensures.known in
-    let turn : SteppingEnd = record { alloc = c.args.alloc; circuit = k; server = c.args.server; at = c.index-2.result.now.at_server; waited = length c.out_bytes.result.now; applied = c.applied-applied.result } in
+    let counted = (few-entries (server_of y) c.args.logs.now.items c.requires.counted).1 in
+    let few : c.applied.result < applied_limit = omega (arith, c.applied.ensures, counted) in
+    let turn : SteppingEnd = record { alloc = c.args.alloc; circuit = k; server = c.args.server; at = c.index-2.result.now.at_server; waited = length c.out_bytes.result.now; applied = c.applied.result } in
     may-step turn y.core (map joined_of ks) (map joined_of (slice_set ks k new)) (map record_of y.records.items) (map record_of c.next_ahead.new.records.items) (joined_of new) c.in_ok-ahead.ahead
-    joins c.next_ahead.ensures.same (At-map joined_of (slice_set ks k new) k new (at-set ks k x new there)) c.requires.may known (ap (λ (j : Joined). j.at_server) second) (ap length c.out_bytes.ensures) c.applied-applied.ensures c.if-applied-ge-APPLIED_LIMIT.false
+    joins c.next_ahead.ensures.same (At-map joined_of (slice_set ks k new) k new (at-set ks k x new there)) c.requires.may known (ap (λ (j : Joined). j.at_server) second) (ap length c.out_bytes.ensures) c.applied.ensures few
 
 pub step_end-requires-clause-served : goal.step_end-requires-clause-served
 step_end-requires-clause-served c =

@@ -17,6 +17,7 @@ use Rattle.ca_world_data.specs.Logs.{lines_in}
 use Rattle.ca_world_data.specs.Seen.{client_of, joined_of}
 use Rattle.ca_world_data.specs.Puts.{AreOnce, write_names}
 use Rattle.ca_world_data.specs.Speaking.{GoesUp}
+use Rattle.ca_world.proofs.Counted.{few-writes}
 use Rattle.ca_world.proofs.Writing.{writes-done, writes-moved, writes-noted}
 use Rattle.ca_world.proofs.write.write_on.Goals as goal
 
@@ -25,6 +26,12 @@ with_payload-message-requires c =
     let a : Elements = elements c.args.value.now in
     let fits = put-fits c.prepare.new.side.core false c.in_ok-handle.handle a c.in-Ok.ensures.1.0 c.in-Ok.ensures.1.1 c.in-Ok.ensures.1.2 in
     subst (λ (z : List ℕ). IsPayload z) (sym c.in_ok-payload.ensures) (padded-payload (bytes_of a) fits.1)
+
+pub overflow_add-side : goal.overflow_add-side
+overflow_add-side c =
+    let few = few-writes (client_of c.args.side.now) c.args.logs.now.items c.requires.counted in
+    let same : (client_of c.prepare.new.side).names.writes ≡ (client_of c.args.side.now).names.writes = ap (λ (z : model.ClientSide). z.names.writes) c.prepare.ensures.side in
+    omega (arith, few, same)
 
 pub returns-in-Ok-clause-writes : goal.returns-in-Ok-clause-writes
 returns-in-Ok-clause-writes c =

@@ -20,12 +20,13 @@ use Rattle.ca_world_data.proofs.Indexes.{indexed-same, numbers-set}
 use Rattle.ca_world_data.proofs.Worlds.{found, world_of}
 use Rattle.ca_world.specs.Whole.{seen}
 use Rattle.ca_world.proofs.Additions.{add-does, run-order}
+use Rattle.ca_world.proofs.Counted.{run-counted}
 use Rattle.ca_world.proofs.Lasting.{all-stand}
 use Rattle.ca_world.proofs.Waits.{server-here}
 use Rattle.ca_world.proofs.world.World.add.Goals as goal
 
-pub add_at-requires : goal.add_at-requires
-add_at-requires c =
+pub add_at-requires-clause-order : goal.add_at-requires-clause-order
+add_at-requires-clause-order c =
     let w = c.self.inside in
     let ss : List ServerSide = w.servers.items in
     let i : ℕ = c.args.server in
@@ -33,6 +34,16 @@ add_at-requires c =
     let within : i < length ss = omega (arith, c.if-server-len.false, c.len.ensures) in
     let at : At ss i y = found ss i y y within c.index_mut.ensures.value in
     run-order (seen w) i (server_of y) c.self.invariant.reached (At-map server_of ss i y at)
+
+pub add_at-requires-clause-counted : goal.add_at-requires-clause-counted
+add_at-requires-clause-counted c =
+    let w = c.self.inside in
+    let ss : List ServerSide = w.servers.items in
+    let i : ℕ = c.args.server in
+    let y : ServerSide = c.index_mut.result.now in
+    let within : i < length ss = omega (arith, c.if-server-len.false, c.len.ensures) in
+    let at : At ss i y = found ss i y y within c.index_mut.ensures.value in
+    (run-counted (seen w) c.self.invariant.reached).servers i (server_of y) (At-map server_of ss i y at)
 
 pub may_add-requires : goal.may_add-requires
 may_add-requires c =

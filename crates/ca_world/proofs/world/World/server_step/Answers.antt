@@ -14,9 +14,11 @@ use Rattle.ca_world_data.specs.declared.server.ServerSide.{ServerSide}
 use Rattle.ca_world_data.specs.Does.{Does}
 use Rattle.ca_world_data.specs.Indexed.{client_numbers, server_numbers}
 use Rattle.ca_world_data.specs.Opening.{entries_in}
-use Rattle.ca_world_data.specs.Seen.{joined_of, line_of}
+use Rattle.ca_world_data.specs.Seen.{joined_of, line_of, server_of}
 use Rattle.ca_world_data.proofs.Serving.{served-of}
 use Rattle.ca_world_data.proofs.Worlds.{ends-client, ends-here, ends-server, found, is-open, no-ends-here, not-open, world_of}
+use Rattle.ca_world.specs.Whole.{seen}
+use Rattle.ca_world.proofs.Counted.{run-counted}
 use Rattle.ca_world.proofs.Lasting.{all-stand}
 use Rattle.ca_world.proofs.Pumpings.{pump-none, pump-off}
 use Rattle.ca_world.proofs.StepWorlds.{step-by, step-comes, step-indexed, step-may}
@@ -77,6 +79,19 @@ step_or_rest-requires-clause-may c =
     let y : ServerSide = c.index_mut.result.now in
     let server : At ss e.server y = found ss e.server y y (ends-server (length cs) (length ss) ks k e a) c.index_mut.ensures.value in
     step-may cs ss ks cl sl w.moment k e a y server (is-open e.server_open c.if-not-ends.false) c.self.invariant.reached c.self.invariant.fit
+
+pub step_or_rest-requires-clause-counted : goal.step_or_rest-requires-clause-counted
+step_or_rest-requires-clause-counted c =
+    let w = c.self.inside in
+    let cs : List ClientSide = w.clients.items in
+    let ss : List ServerSide = w.servers.items in
+    let ks : List Joined = w.circuits.items in
+    let e : Ends = c.in-Some.ends in
+    let k : ℕ = c.args.circuit in
+    let a = ends-here cs ss ks c.deref.result.now c.len.result c.len-2.result k e (omega (arith, c.len.ensures)) (omega (arith, c.len-2.ensures)) c.deref.ensures.value c.in-Some.ensures in
+    let y : ServerSide = c.index_mut.result.now in
+    let server : At ss e.server y = found ss e.server y y (ends-server (length cs) (length ss) ks k e a) c.index_mut.ensures.value in
+    (run-counted (seen w) c.self.invariant.reached).servers e.server (server_of y) (At-map server_of ss e.server y server)
 
 pub step_or_rest-requires-clause-comes : goal.step_or_rest-requires-clause-comes
 step_or_rest-requires-clause-comes c =

@@ -10,6 +10,7 @@ use Rattle.ca_world_data.specs.Does.{Does}
 use Rattle.ca_world_data.specs.Logs.{lines_in}
 use Rattle.ca_world_data.specs.Seen.{client_of, joined_of}
 use Rattle.ca_world.specs.Whole.{seen}
+use Rattle.ca_world.proofs.Counted.{run-counted}
 use Rattle.ca_world.proofs.Writing.{writes-does, writes-keep}
 use Rattle.ca_world.proofs.Speeches.{numbered-here, tidy-here, speaks, speaks-stand}
 use Rattle.ca_world_data.proofs.Worlds.{found}
@@ -32,6 +33,15 @@ write_on-requires-clause-numbered c =
     let within : c.args.client < length cs = omega (arith, c.if-client-len.false, c.len.ensures) in
     let at : At cs c.args.client x = found cs c.args.client x x within c.index_mut.ensures.value in
     numbered-here w c.args.client x at c.self.invariant
+
+pub write_on-requires-clause-counted : goal.write_on-requires-clause-counted
+write_on-requires-clause-counted c =
+    let w = c.self.inside in
+    let cs : List ClientSide = w.clients.items in
+    let x : ClientSide = c.index_mut.result.now in
+    let within : c.args.client < length cs = omega (arith, c.if-client-len.false, c.len.ensures) in
+    let at : At cs c.args.client x = found cs c.args.client x x within c.index_mut.ensures.value in
+    (run-counted (seen w) c.self.invariant.reached).clients c.args.client (client_of x) (At-map client_of cs c.args.client x at)
 
 pub returns : goal.returns
 returns c =
