@@ -1,6 +1,6 @@
 -- A record's busy put is finished at a server, from what its parts became.
 use Rattle.std.proofs.Common.{◌≡◌, ◌∙◌, ℕ, zero, suc, ◌+◌, ◌<◌, ◌≤◌, ◌==◌, ◌&&◌, below_more, inl, inr, Bool, true, false, List, [], ◌∷◌, ◌++◌, Option, Some, None, Result, Ok, Err, drop, length, refl, sym, ap, subst, arith}
-use Rattle.std.specs.Prelude.{IsErrAnd, OnOk, Vec, if◌then◌else◌, is_some, map, option_map, slice_get, slice_set, unwrap_or, vec_capacity, vec_len}
+use Rattle.std.specs.Prelude.{IsErrAnd, OnOk, Vec, if◌then◌else◌, is_some, map, option_map, slice_get, slice_index_or, slice_set, unwrap_or, vec_capacity, vec_len}
 use Rattle.std.specs.declared.alloc.Global.{Global}
 use Rattle.std.specs.List.{fold}
 use Rattle.std.specs.Str.{bytes_eq}
@@ -27,7 +27,7 @@ use Rattle.ca_model.specs.History as history
 use Rattle.ca_model.specs.Server.{Ended, Open, Server, ServerCircuit}
 use Rattle.ca_model.specs.ServerCalls.{Finishes, Replies, after_next, finish_reply, lacking, with_finish}
 use Rattle.ca_model.specs.ServerSteps.{reached, stored_now, write_mask}
-use Rattle.ca_model.specs.Speech.{Stored}
+use Rattle.ca_model.specs.Speech.{In, Stored}
 use Rattle.ca_model.specs.Events as event
 use Rattle.ca_model.specs.Runs.{CanBe, IsServer}
 use Rattle.ca_model.specs.ServerEvents.{about, ending, ends_by, finish_entry, first_of, keys_concerned, next_busy, next_entries, next_numbers, numbers_posted, replied_at, reported, server_after, with_number, with_record, withdrawals, without_puts}
@@ -46,7 +46,7 @@ use Rattle.ca_laws_parts.specs.Moves.{Lives}
 use Rattle.ca_laws_parts.specs.Once.{Once}
 use Rattle.ca_server_core.specs.Asking.{busy_value, value_busy}
 use Rattle.ca_server_core.specs.ForHistories.{bytes_under}
-use Rattle.ca_world.specs.Finishing.{AreBehind, Ends, Finished, FinishesAt, HasRoomOn, IsBeside, IsBusy, IsBusyOn, IsFound, IsNext, MayFinish, TellsFinish, TellsWait, WaitIn, WaitsIn, applied_of, numbered, replied_in, with_down}
+use Rattle.ca_world.specs.Finishing.{AreBehind, Ends, Finished, FinishesAt, HasNext, HasRoomOn, IsBeside, IsBusy, IsBusyOn, IsFound, IsNext, MayFinish, TellsFinish, TellsWait, WaitIn, WaitsIn, applied_of, numbered, replied_in, with_down}
 use Rattle.ca_world.specs.Whole.{IsReached}
 use Rattle.ca_world.proofs.Additions.{others-apart}
 use Rattle.ca_world.proofs.Postings.{each-under, ending-keeps, posted-keeps, served-posted}
@@ -61,21 +61,44 @@ use Rattle.ca_world_data.specs.declared.server.ServerSide.{ServerSide}
 use Rattle.ca_world_data.specs.Does.{Does}
 use Rattle.ca_world_data.specs.Indexed.{AreIndexed, server_numbers}
 use Rattle.ca_world_data.specs.Numbering.{AllAlike, AllMayCount, IsAlike, MayCount}
+use Rattle.ca_world_data.specs.Opening.{entries_in}
 use Rattle.ca_world_data.specs.Reporting.{AreServed, Reports, gone_at, waits}
-use Rattle.ca_world_data.specs.Seen.{client_of, joined_of, place_of, record_of, server_of, told_of}
+use Rattle.ca_world_data.specs.Seen.{client_of, entry_of, joined_of, place_of, record_of, server_of, told_of}
 use Rattle.ca_world_data.specs.ServerCuts.{HasRoomFor}
 use Rattle.ca_world_data.proofs.Indexes.{KeepsEnds, ends-stay, indexed-circuit, indexed-map, indexed-same, numbers-set}
-use Rattle.ca_world_data.proofs.Worlds.{set-map, set-same, world_of}
+use Rattle.ca_world_data.proofs.Worlds.{found as looked, set-map, set-same, world_of}
 
 -- ---- the value of a put that waits
 
--- what an entry says, if a value was found
+-- no entry before this one tells of the put, nor does this one
+pub none-told : (log : List history.Entry) (p : PutPlace) (n : ℕ) (here : history.Entry) → ((place : ℕ) → place < n → (e : history.Entry) → At log place e → WaitIn e p None) → At log n here → WaitIn here p None
+    → (place : ℕ) → place < n + 1 → (e : history.Entry) → At log place e → WaitIn e p None
+none-told log p n here before at not =
+    below_more (λ (place : ℕ). (e : history.Entry) → At log place e → WaitIn e p None) n before (λ e there. subst (λ (z : history.Entry). WaitIn z p None) (At-one log n here e at there) not)
+
+-- what an entry says, if no value was found
+pub wait-none : {A : Type 0} (f : A → Elements) (e : history.Entry) (p : PutPlace) (o : Option A) → o ≡ None → WaitIn e p (option_map f o) → WaitIn e p None
+wait-none f e p o is tells = subst (λ (x : Option _). WaitIn e p (option_map f x)) is tells
+
+-- and if one was
 pub wait-found : {A : Type 0} (f : A → Elements) (e : history.Entry) (p : PutPlace) (o : Option A) (v : A) → o ≡ Some v → WaitIn e p (option_map f o) → TellsWait e p (f v)
 wait-found f e p o v is tells = subst (λ (x : Option _). WaitIn e p (option_map f x)) is tells
 
 -- and a log
 pub waits-found : {A : Type 0} (f : A → Elements) (log : List history.Entry) (p : PutPlace) (o : Option A) (v : A) → o ≡ Some v → WaitsIn log p (option_map f o) → WaitsIn log p (Some (f v))
 waits-found f log p o v is tells = subst (λ (x : Option _). WaitsIn log p (option_map f x)) is tells
+
+-- The log that was looked at is that of the life, and tells of the put that waits first.
+pub next-log : (logs : List (Vec LogEntry Global)) (life : ℕ) (ps : List PutPlace) (p : PutPlace) (log any : Vec LogEntry Global) → HasNext (entries_in logs) life ps → first_of ps ≡ Some p → log ≡ slice_index_or logs life any
+    → At (entries_in logs) life (map entry_of log.items) × ((e : history.Entry) × (value : Elements) × In (map entry_of log.items) e × TellsWait e p value)
+next-log logs life ps p log any has first is =
+    let (value, (told, there, (q, q_first, (e, in_log, tells)))) = has p first in
+    let within : life < length (entries_in logs) = At-within (entries_in logs) life told there in
+    let long : length (entries_in logs) ≡ length logs = length-map logs (λ (l : Vec LogEntry Global). map entry_of l.items) in
+    let at : At (entries_in logs) life (map entry_of log.items) = At-map (λ (l : Vec LogEntry Global). map entry_of l.items) logs life log (looked logs life log any (omega (arith, within, long)) is) in
+    let same : told ≡ map entry_of log.items = At-one (entries_in logs) life told (map entry_of log.items) there at in
+    let one : q ≡ p = some_is q p (sym q_first ∙ first) in
+    (at, (e, value, subst (λ (l : List history.Entry). In l e) same in_log, subst (λ (z : PutPlace). TellsWait e z value) one tells))
 
 -- ---- logs
 
@@ -285,6 +308,18 @@ module _ (w : model.World) (i : ℕ) (y : model.ServerSide) (name : List ℕ) (a
           At-one l.log n _ _ in_life (subst (λ (k : ℕ). At l.log k (history.Waits p.circuit p.place r.number came.v)) (sym place) came.came.1) in
           ap (λ (z : Elements). Some z) (sym came.with_it ∙ sym (ap (λ (z : history.Entry). value-waits z v) is) ∙ v_is)
 
+  -- the log tells of the put that waits first
+  first-told : (c : Record) (r : model.RecordSide) → Both (WaitsAs (IsPutOf w.circuits i) l.log r.number) r.waiting c.waiting → HasNext w.server_logs y.life r.waiting
+  first-told c r both p first = go r.waiting c.waiting both first
+    where
+      go : (ps : List PutPlace) (ws : List WaitingPut) → Both (WaitsAs (IsPutOf w.circuits i) l.log r.number) ps ws → first_of ps ≡ Some p → (value : Elements) × IsNext w.server_logs y.life ps (Some value)
+      go [] ws both first = absurd cc
+      go (q ∷ ps) [] both first = absurd both
+      go (q ∷ ps) (x ∷ ws) both first =
+          let came = both.0.0 in
+          let e : history.Entry = history.Waits q.circuit q.place r.number came.v in
+          (came.v.value, (l.log, l.at, (q, refl, (e, (came.came.0, came.came.1), (r.number, came.v, refl, refl)))))
+
   -- the circuit of a busy put is there
   busy-place : (b : Put) (o : Option PutPlace) → IsBusyAs (IsPutOf w.circuits i) o (Some b) → (p : PutPlace) × (j : model.Joined) × (o ≡ Some p) × At w.circuits p.circuit j
   busy-place b None is = absurd is
@@ -304,6 +339,7 @@ module _ (w : model.World) (i : ℕ) (y : model.ServerSide) (name : List ℕ) (a
         let f = find-at (λ (r : Record). bytes_eq r.state.name name) y.core.records c named in
         let p : PutFits b = ((fit.cores i y at).records f.0 c f.1).busy b cb in
         message-of (finish_reply b) (omega arith) p.0 p.1 (omega arith) p.2 empty-payload;
+    told = λ c r beside. first-told c r (agree-beside c r beside).each;
     next = λ c r value beside next. first-value c r value (agree-beside c r beside).each next;
     unstamped = run-unstamped w at_run i y at;
   }

@@ -34,15 +34,15 @@ abbrev pub TellsWait : history.Entry → PutPlace → Elements → Type 0
 TellsWait e p value =
     (r : ℕ) × (v : Stored) × (e ≡ history.Waits p.circuit p.place r v) × (v.value ≡ value)
 
--- an entry of this log says so, if a value was found
-abbrev pub WaitsIn : List history.Entry → PutPlace → Option Elements → Type 0
-WaitsIn log p (Some value) = (e : history.Entry) × In log e × TellsWait e p value
-WaitsIn log p None = Unit {0}
-
--- what an entry tells of the put at this place
+-- an entry says so of the value that was found; or of none
 abbrev pub WaitIn : history.Entry → PutPlace → Option Elements → Type 0
 WaitIn e p (Some value) = TellsWait e p value
-WaitIn e p None = Unit {0}
+WaitIn e p None = (value : Elements) → TellsWait e p value → ⊥
+
+-- an entry of this log says so of the value that was found; or none does
+abbrev pub WaitsIn : List history.Entry → PutPlace → Option Elements → Type 0
+WaitsIn log p (Some value) = (e : history.Entry) × In log e × TellsWait e p value
+WaitsIn log p None = (e : history.Entry) → In log e → WaitIn e p None
 
 -- the value of the first of these puts, by this log; or none waits
 abbrev pub NextIn : List history.Entry → List PutPlace → Option Elements → Type 0
@@ -55,6 +55,11 @@ abbrev pub IsNext : List (List history.Entry) → (life : ℕ) → List PutPlace
 IsNext logs life ps None = ps ≡ []
 IsNext logs life ps (Some value) =
     (log : List history.Entry) × At logs life log × NextIn log ps (Some value)
+
+-- the log of a life tells the value of the first of these puts, if one waits
+abbrev pub HasNext : List (List history.Entry) → (life : ℕ) → List PutPlace → Type 0
+HasNext logs life ps =
+    (p : PutPlace) → first_of ps ≡ Some p → (value : Elements) × IsNext logs life ps (Some value)
 
 -- ---- a record
 
@@ -70,8 +75,8 @@ IsFound rs name (Some r) = (place : ℕ) × At rs place r × (r.name.items ≡ n
 
 -- What holds of a record of this name, so that its busy put may be finished: the record is there
 -- beside the core's, with the place of the put, whose circuit is there; the put came on the circuit
--- of its handle, its reply is a message, the log says the value of the put that waits first, and
--- writes are stored with no stamp.
+-- of its handle, its reply is a message, the log tells of the put that waits first, with its value,
+-- and writes are stored with no stamp.
 pub record MayFinish (name : List ℕ) (y : Side) (ks : List Joined)
     (logs : List (List history.Entry)) : Type 0 where
   pub there : (c : Record) (b : Put) → record_named y.core.records name ≡ Some c → c.busy ≡ Some b
@@ -84,6 +89,8 @@ pub record MayFinish (name : List ℕ) (y : Side) (ks : List Joined)
       → j.at_server ≡ b.circuit
   pub fits : (c : Record) (b : Put) → record_named y.core.records name ≡ Some c → c.busy ≡ Some b
       → IsMessage (finish_reply b)
+  pub told : (c : Record) (r : RecordSide) → IsBeside y.core y.records name c r
+      → HasNext logs y.life r.waiting
   pub next : (c : Record) (r : RecordSide) (value : Option Elements)
       → IsBeside y.core y.records name c r → IsNext logs y.life r.waiting value
       → option_map (λ (w : WaitingPut). w.value) (first_of c.waiting) ≡ value

@@ -4,7 +4,7 @@ ghost use Rattle.std.specs.Prelude.{◌≡◌, IfOk, if◌then◌else◌, map, o
 ghost use Rattle.std.specs.Str.{bytes_eq};
 ghost use Rattle.ca_dbr.specs.Elements.{elements};
 ghost use Rattle.ca_model.specs.ServerEvents as world;
-ghost use Rattle.ca_world.specs.Finishing.{IsNext, WaitIn, WaitsIn};
+ghost use Rattle.ca_world.specs.Finishing.{HasNext, IsNext, WaitIn, WaitsIn};
 ghost use Rattle.ca_world_data.specs.Opening.{entries_in};
 ghost use Rattle.ca_world_data.specs.Seen.{entry_of, place_of, record_of};
 
@@ -46,24 +46,23 @@ fn next_busy(side: &mut RecordSide)
     }
 }
 
-/// The value of the first of these puts, which wait, by the log of a life. None if none waits.
+/// The value of the first of these puts, which wait, by the log of a life, which tells of it. None
+/// if none waits.
 pub(crate) fn next_value(
     alloc: Global,
     logs: &[Vec<LogEntry>],
     life: usize,
     waiting: &[PutPlace],
 ) -> Result<Option<Value>, AllocError>
+    requires { HasNext (entries_in logs.now) life (map place_of waiting.now) }
     ensures { IfOk result (λ v.
         IsNext (entries_in logs.now) life (map place_of waiting.now) (option_map elements v)) }
 {
     let Some(put) = first_put(waiting) else {
         return Ok(None);
     };
-    if life >= logs.len() {
-        return Err(AllocError);
-    }
     let Some(value) = value_waiting(&logs[life], put) else {
-        return Err(AllocError);
+        unreachable!()
     };
     let copy = value_again(alloc, value)?;
     Ok(Some(copy))
@@ -79,7 +78,7 @@ pub(crate) fn first_put(waiting: &[PutPlace]) -> Option<PutPlace>
     Some(waiting[0])
 }
 
-// The value with which the put of this place came to wait.
+// The value with which the put of this place came to wait, or no entry tells of it.
 fn value_waiting<'a>(log: &'a [LogEntry], put: PutPlace) -> Option<&'a Value>
     ensures { WaitsIn
         (map entry_of log.now)

@@ -6,7 +6,7 @@ use Rattle.ca_records.specs.declared.puts.Put.{Put}
 use Rattle.ca_model.specs.History as history
 use Rattle.ca_model.specs.ServerEvents.{first_of}
 use Rattle.ca_model.specs.World as model
-use Rattle.ca_world.specs.Finishing.{IsBeside, IsBusy, IsBusyOn, IsNext, TellsFinish}
+use Rattle.ca_world.specs.Finishing.{HasNext, IsBeside, IsBusy, IsBusyOn, IsNext, TellsFinish}
 use Rattle.ca_world_data.specs.declared.history.LogEntry.{LogEntry}
 use Rattle.ca_world_data.specs.declared.joined.Joined.{Joined}
 use Rattle.ca_world_data.specs.declared.server.PutPlace.{PutPlace}
@@ -53,6 +53,16 @@ reserve_finish-requires c =
     let beside : IsBeside y.core (map record_of y.records.items) name b.1.c (record_of r) = found-beside y c.deref.result.now name r b.0 b.1 c.deref.ensures.value c.in-Some.ensures in
     let within : p.circuit < length ks = on-within y.core name p.circuit ks (busy-on y ks (entries_in c.args.logs.now.items) name r p b.0 b.1 c.requires.may beside c.in-Some-busy.is) in
     omega (arith, within)
+
+pub next_value-requires : goal.next_value-requires
+next_value-requires c =
+    let y : ServerSide = c.args.side.now in
+    let name : List ℕ = c.args.name.now in
+    let r : RecordSide = c.in-Some.found.now in
+    let has : is_some c.busy_value.result ≡ true = c.is_none.ensures ∙ ap not c.if-is_none.false in
+    let b : (z : Put) × IsBusy y.core name z = some-busy (λ v. elements v.now) c.busy_value.result y.core name c.busy_value.ensures has in
+    let beside : IsBeside y.core (map record_of y.records.items) name b.1.c (record_of r) = found-beside y c.deref.result.now name r b.0 b.1 c.deref.ensures.value c.in-Some.ensures in
+    subst (λ (z : List (Vec LogEntry Global) × List PutPlace). HasNext (entries_in z.0) y.life (map place_of z.1)) (λ t. (sym c.deref-3.ensures.value t, sym c.deref-4.ensures.value t)) (c.requires.may.told b.1.c (record_of r) beside)
 
 pub returns-in_err-value : goal.returns-in_err-value
 returns-in_err-value c =
