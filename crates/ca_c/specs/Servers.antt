@@ -21,7 +21,7 @@ use Rattle.ca_script.specs.RecordFiles.{FileReading, SaysFile}
 use Rattle.ca_server_core.specs.Asking.{NamesUnder, busy_value, first_waiting, peer_under}
 use Rattle.ca_server_core.specs.Asking.{record_now}
 use Rattle.ca_server_core.specs.Effects.{TellsEffect}
-use Rattle.ca_server_core.specs.Serving.{Closes, stepped}
+use Rattle.ca_server_core.specs.Serving.{stepped}
 use Rattle.ca_server_core.specs.declared.stepping.CoreStep.{CoreStep}
 use Rattle.ca_server_core.specs.declared.stepping.CoreStep.TheVariants.{Closed}
 use Rattle.ca_text.specs.declared.refusal.Refusal.{Refusal}
@@ -81,7 +81,6 @@ left_after did before = before
 unfoldable pub DoesStep : ServerObject → ℤ → ServerObject → (circuit : ℕ) → CvzStep → Type 0
 DoesStep s n t circuit told = (did : CoreStep) × ((n ≡ step_number did) × (told ≡ c_step did)
     × Steps s.core (handle_of circuit) (stepped did) t.core
-    × Closes s.core (handle_of circuit) (stepped did) t.core
     × TellsEffect s.core (handle_of circuit) did t.core
     × (t.left ≡ left_after did s.left) × (t.answers ≡ s.answers) × (t.taken ≡ s.taken))
 

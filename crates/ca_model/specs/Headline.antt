@@ -84,8 +84,8 @@ module _
     pub answered : (k : ℕ) (h : Step) → At c.handled k h → Answered n c y k h
     pub in_order : AreSteps c.handled c.up c.down y × AreSteps c.heard c.down c.up x
 
-  -- Line i of a client's log was told when a message was read that was sent for one with this
-  -- intent, which the caller had not ended, and that means this outcome.
+  -- Line i of a client's log was told when the client read a message that means this outcome, about
+  -- its own with this intent, which the caller had not ended.
   pub record Reads (w : World) (life : ℕ) (x : List Line) (i : ℕ) (intent : Intent)
       (o : Outcome) : Type 0 where
     pub n : ℕ

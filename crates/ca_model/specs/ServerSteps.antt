@@ -22,6 +22,7 @@ use Rattle.ca_text.specs.declared.refusal.Refusal.TheVariants as refusal
 use Rattle.ca_text.specs.Limits.{applied_limit, output_limit, queue_subscriptions}
 use Rattle.ca_text.specs.Place.{At}
 use Rattle.ca_wire.specs.Fields.{Fields}
+use Rattle.ca_wire.specs.Messages.{text_in}
 use Rattle.ca_wire.specs.Stream.{BadAt, NoneBegins, NotBad}
 use Rattle.ca_model.specs.Due.{Action, Adds, Applies, Clears, Drops, Due, Greets, KnownChannel}
 use Rattle.ca_model.specs.Due.{KnownRecord, Knows, Names, Opens, Switches, Waits}
@@ -282,13 +283,14 @@ pub data Stepped : Type 0 where
   Handled NeedBytes OutputFull : Stepped
   Closed : Why → (left : List ℕ) → Stepped
 
--- There may be no memory for a message with a payload, one that is answered, and one by which a
--- write is applied or waits or a subscription begins.
+-- There may be no memory for a message that is answered, for one whose text is kept, and for one by
+-- which a write is applied or waits or a subscription begins.
 abbrev pub NeedsMemory : Fields → List Fields → Action → Type 0
 NeedsMemory m replies (Applies name value busies) = Unit {0}
 NeedsMemory m replies (Waits name value) = Unit {0}
 NeedsMemory m replies (Adds s) = Unit {0}
-NeedsMemory m replies action = (m.payload ≢ []) ⊎ (replies ≢ [])
+NeedsMemory m replies (Names p) = (text_in m.payload ≢ []) ⊎ (replies ≢ [])
+NeedsMemory m replies action = replies ≢ []
 
 -- The next message of the circuit, whose end can take it: what is due, and what it does.
 pub record Next (y : Server) (h : Handle) (e : ServerEnd) : Type 0 where
@@ -314,12 +316,14 @@ LeftOf {y} {h} {e} next None new = new ≡ y
 LeftOf {y} {h} {e} next (Some gone) new =
     (is_write next.action ≡ true) × Reaches next.action gone next.after new
 
--- The end closes out of memory for the next message: its replies are not sent, and its
--- write is applied or not.
+-- The end closes out of memory for the next message, which needs some, and whose replies are not
+-- sent. Nothing of it is done; or its write is applied, and this end is one of those that lacked
+-- memory for an update of it.
 pub record LacksMemory (y : Server) (h : Handle) (e : ServerEnd) (new : Server) : Type 0 where
   pub next : Next y h e
   pub needs : NeedsMemory next.m next.replies next.action
   pub written : Option (Handle → Bool)
+  pub itself : (gone : Handle → Bool) → written ≡ Some gone → gone h ≡ true
   pub mid : Server
   pub left_is : LeftOf next written mid
   pub leaves : new ≡ closed h mid

@@ -1,12 +1,15 @@
 -- The events leave these worlds.
-use Rattle.std.proofs.Common.{◌≡◌, ◌≢◌, ℕ, ◌<◌, ◌≤◌, ◌+◌, inl, inr, List, [], ◌∷◌, length, refl, sym, ap, subst, ◌∙◌, arith, rules}
+use Rattle.std.proofs.Common.{◌≡◌, ◌≢◌, ℕ, ◌<◌, ◌≤◌, ◌+◌, inl, inr, Bool, List, [], ◌∷◌, length, Option, refl, sym, ap, subst, ◌∙◌, arith, rules}
 use Rattle.std.specs.Prelude.{true, false, Some, None}
+use Rattle.std.specs.List.{list_any}
 use Rattle.std.proofs.lemmas.List.{append-nil}
+use Rattle.ca_arena.specs.declared.handle.Handle.{Handle}
+use Rattle.ca_ids.specs.Table.{Table, same_handle, under, with_changed}
 use Rattle.ca_text.specs.Place.{At}
 use Rattle.ca_text.specs.declared.refusal.Refusal.TheVariants as refusal
 use Rattle.ca_text.proofs.Places.{At-within, some_is}
-use Rattle.ca_dbr.specs.Elements.{signed_bytes_4}
-use Rattle.ca_link.specs.Link.{LinkState, TakesFirst}
+use Rattle.ca_dbr.specs.Elements.{Elements, signed_bytes_4}
+use Rattle.ca_link.specs.Link.{LinkState, TakesFirst, with_rest, with_sent}
 use Rattle.ca_queue.specs.Queue.{Queue}
 use Rattle.ca_queue.specs.Waiting.{taken}
 use Rattle.ca_wire.specs.Fields.{Fields}
@@ -19,9 +22,10 @@ use Rattle.ca_wire.proofs.Fronts.{no-header, none-below}
 use Rattle.ca_wire.proofs.Streams.{spelled-begins}
 use Rattle.ca_dgram.specs.Datagram.{IsDatagram}
 use Rattle.ca_model.specs.Ends as why
-use Rattle.ca_model.specs.Due.{Applies, Due}
-use Rattle.ca_model.specs.Server.{ServerEnd}
-use Rattle.ca_model.specs.ServerSteps.{HasEnd, Leaves, Next, Pumps, Rests, Update, knows}
+use Rattle.ca_model.specs.Due.{Action, Adds, Applies, Clears, Drops, Due, Greets, Names, Nothing, Opens, Switches, Waits}
+use Rattle.ca_model.specs.Server.{Open, Server, ServerCircuit, ServerEnd, concerns}
+use Rattle.ca_model.specs.ServerSteps.{Handles, HasEnd, LacksMemory, Leaves, LeftOf, MayEnd, Next, Pumps, Reaches, Records, Rests, Update, is_concerned, is_write, knows, write_mask}
+use Rattle.ca_model.proofs.Handles.{same-is}
 use Rattle.ca_model.specs.ServerSteps as stepped
 use Rattle.ca_model.specs.Speech.{Stored}
 use Rattle.ca_model.specs.Events as event
@@ -32,7 +36,7 @@ use Rattle.ca_model.specs.World.{ClientSide, Joined, World}
 use Rattle.ca_records.specs.Record.{HoldsValue}
 use Rattle.ca_model_examples.specs.ServerRows.{wave}
 use Rattle.ca_model_examples.specs.DueReplies.{v22}
-use Rattle.ca_model_examples.specs.ServerHappens.{AddHappens, AddsRefused, CannotBe, CutHappens, FinishHappens, FinishesRefused, LackHappens, DatagramHappens, PostHappens, PostsRefused, PumpHappens, RemoveHappens, RestartHappens, UpHappens, WriteHappens, cut, update_told, writing}
+use Rattle.ca_model_examples.specs.ServerHappens.{AddHappens, AddsRefused, CannotBe, CutHappens, FinishHappens, FinishesRefused, LackHappens, LacksNotSo, DatagramHappens, PostHappens, PostsRefused, PumpHappens, RemoveHappens, RestartHappens, UpHappens, WriteHappens, cut, of_two, update_told, writing}
 use Rattle.ca_model_examples.specs.ServerWorld.{before, client, core_before, joined_0, number_2, end_0, entry_2, first, link, on_slow, on_temp, written}
 use Rattle.ca_model_examples.specs.Worlds.{long, temp, temp_name}
 use Rattle.ca_model_examples.proofs.DueReplies.{due-of, reads-22}
@@ -81,13 +85,25 @@ write-happens = (
   (stepped.Handled, record { e = _; has = refl; core = _; steps = (writing-next, (λ h. false), refl, ((λ h e. nowhere e), refl)); leaves = refl }),
 )
 
+-- no write was applied
+none-written : (gone : Handle → Bool) → (let none : Option (Handle → Bool) = None in none ≡ Some gone) → ⊥
+none-written gone e = cc
+
+-- the circuit of that step
+abbrev own : Handle → Bool
+own h = same_handle h first
+
+own-concerned : MayEnd writing-next.after temp_name write_mask own
+own-concerned h e =
+    subst (λ (g : Handle). (c : ServerCircuit) × (under writing-next.after.circuits g ≡ Some c) × (is_concerned temp_name write_mask c ≡ true)) (sym (same-is h first e)) (_, refl, refl)
+
 pub lack-happens : LackHappens
 lack-happens = (
   (
     record { j = _; x = _; y = _; joins = record { at = refl; client = refl; server = refl }; is_open = refl },
     (
       stepped.Closed why.OutOfMemory [],
-      record { e = _; has = refl; left_is = refl; core = _; lacks = record { next = writing-next; needs = tt; written = None; mid = _; left_is = refl; leaves = refl }; leaves = refl },
+      record { e = _; has = refl; left_is = refl; core = _; lacks = record { next = writing-next; needs = tt; written = None; itself = λ gone e. absurd (none-written gone e); mid = _; left_is = refl; leaves = refl }; leaves = refl },
     ),
   ),
   (
@@ -99,12 +115,64 @@ lack-happens = (
         has = refl;
         left_is = refl;
         core = _;
-        lacks = record { next = writing-next; needs = tt; written = Some (λ h. false); mid = _; left_is = (refl, ((λ h e. nowhere e), refl)); leaves = refl };
+        lacks = record {
+          next = writing-next;
+          needs = tt;
+          written = Some own;
+          itself = λ gone e. subst (λ (g : Handle → Bool). g first ≡ true) (some_is own gone e) refl;
+          mid = _;
+          left_is = (refl, (own-concerned, refl));
+          leaves = refl;
+        };
         leaves = refl;
       },
     ),
   ),
 )
+
+-- a write leaves the circuits as they are, but for its updates
+write-circuits : (y : Server) (h : Handle) (e : ServerEnd) (m : Fields) (name : List ℕ) (value : Elements) (busies : Bool) (new : Server) → Records y h e m (Applies name value busies) new → new.circuits ≡ y.circuits
+write-circuits y h e m name value false new r = ap (λ (z : Server). z.circuits) r
+write-circuits y h e m name value true new r = ap (λ (z : Server). z.circuits) r.2
+
+-- an end with no subscription lacks no memory for an update
+module _ (e : ServerEnd) (none : e.subscriptions ≡ []) (next : Next (of_two e) first e) (gone : Handle → Bool) (mid : Server) (own_gone : gone first ≡ true) where
+  not-itself : is_write next.action ≡ true → Reaches next.action gone next.after mid → ⊥
+  not-itself wrote reaches = go next.action next.handles wrote reaches
+    where
+      taken : ServerEnd
+      taken = record e { link = with_rest next.rest e.link }
+
+      go : (action : Action) → Handles (of_two e) first taken next.m next.replies action next.after → is_write action ≡ true → Reaches action gone next.after mid → ⊥
+      go (Applies name value busies) h wrote reaches =
+          let sent : ServerEnd = record h.acted { link = with_sent next.replies h.acted.link } in
+          let there : under next.after.circuits first ≡ Some (Open sent) =
+          ap (λ (z : Server). under z.circuits first) h.leaves
+          ∙ ap (λ (t : Table ServerCircuit). under (with_changed (λ (c : ServerCircuit). Open sent) first t) first) (write-circuits (of_two e) first taken next.m name value busies h.recorded h.records) in
+          let may = reaches.0 first own_gone in
+          let concerned : is_concerned name write_mask (Open sent) ≡ true = subst (λ (c : ServerCircuit). is_concerned name write_mask c ≡ true) (sym (some_is (Open sent) may.0 (sym there ∙ may.1))) may.2 in
+          let empty : h.acted.subscriptions ≡ [] = ap (λ (z : ServerEnd). z.subscriptions) h.acts ∙ none in
+          nowhere (sym (ap (list_any (concerns name write_mask)) empty) ∙ concerned)
+      go (Waits name value) h wrote reaches = nowhere wrote
+      go Nothing h wrote reaches = nowhere wrote
+      go Greets h wrote reaches = nowhere wrote
+      go (Names p) h wrote reaches = nowhere wrote
+      go (Opens c) h wrote reaches = nowhere wrote
+      go (Clears sid) h wrote reaches = nowhere wrote
+      go (Adds s) h wrote reaches = nowhere wrote
+      go (Drops key) h wrote reaches = nowhere wrote
+      go (Switches on) h wrote reaches = nowhere wrote
+
+-- so that none of its writes is applied
+none-applied : (e : ServerEnd) (core : Server) → e.subscriptions ≡ [] → LacksMemory (of_two e) first e core → core.applied ≡ 0
+none-applied e core none l = ap (λ (z : Server). z.applied) l.leaves ∙ go l.written l.itself l.left_is
+  where
+    go : (written : Option (Handle → Bool)) → ((gone : Handle → Bool) → written ≡ Some gone → gone first ≡ true) → LeftOf l.next written l.mid → (l.mid).applied ≡ 0
+    go None itself left = ap (λ (z : Server). z.applied) left
+    go (Some gone) itself left = absurd (not-itself e none l.next gone l.mid (itself gone refl) left.0 left.1)
+
+pub lacks-not-so : LacksNotSo
+lacks-not-so = ((λ core l e. nowhere (l.itself (λ h. false) e)), none-applied)
 
 -- ---- updates leave
 

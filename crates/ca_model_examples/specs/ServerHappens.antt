@@ -1,5 +1,7 @@
 -- Vocabulary: what events leave of a small server's world, and which cannot be done.
-use Rattle.std.specs.Prelude.{ℕ, pos, true, false, List, [], ◌∷◌, ◌++◌, Some, None, drop, take}
+use Rattle.std.specs.Prelude.{ℕ, ◌≡◌, pos, true, false, List, [], ◌∷◌, ◌++◌, Some, None, drop}
+use Rattle.std.specs.Prelude.{take}
+use Rattle.ca_arena.specs.declared.handle.Handle.{Handle}
 use Rattle.ca_text.specs.declared.command.Command.TheVariants as command
 use Rattle.ca_text.specs.Status.{normal}
 use Rattle.ca_dbr.specs.Elements.{longs}
@@ -8,15 +10,16 @@ use Rattle.ca_wire.specs.Message.{spelled, spelling}
 use Rattle.ca_wire.specs.Messages.{disconnect, put_request, search_request, update, version_request}
 use Rattle.ca_model.specs.History.{Added, Applied, Cause, Entry, Finished, Posted, Removal, Removed}
 use Rattle.ca_model.specs.History.{Told, Update, Withdrawn}
-use Rattle.ca_model.specs.Server.{Open}
+use Rattle.ca_model.specs.Server.{Open, Server, ServerEnd}
+use Rattle.ca_model.specs.ServerSteps.{LacksMemory}
 use Rattle.ca_model.specs.Events.{Event}
 use Rattle.ca_model.specs.Events as event
 use Rattle.ca_model.specs.Runs.{CanBe, Happens}
 use Rattle.ca_model.specs.World.{Joined, RecordSide, World, server_begun}
 use Rattle.ca_records.specs.Puts.{Record, new_record}
 use Rattle.ca_model_examples.specs.ServerRows.{slow, slow_name, wave}
-use Rattle.ca_model_examples.specs.ServerWorld.{at, before, core_of, creations, end_0, end_1}
-use Rattle.ca_model_examples.specs.ServerWorld.{end_of, entry_2, first, free, given, handled}
+use Rattle.ca_model_examples.specs.ServerWorld.{at, before, core_before, core_of, creations, end_0}
+use Rattle.ca_model_examples.specs.ServerWorld.{end_1, end_of, entry_2, first, free, given, handled}
 use Rattle.ca_model_examples.specs.ServerWorld.{joined, joined_0, joined_1, link, lists, number_2}
 use Rattle.ca_model_examples.specs.ServerWorld.{on_temp, put_by, queues, second, setting, side_of}
 use Rattle.ca_model_examples.specs.ServerWorld.{sides_before, slow_busy, slow_key, slow_now}
@@ -111,7 +114,7 @@ CutHappens = Happens (before [] (1 ∷ 2 ∷ 3 ∷ [])) (event.CutServer 0) cut
 abbrev pub closed_unapplied : World
 closed_unapplied = record cut { circuits = ended_0 [] ∷ joined_1 [] [] 1 [] ∷ [] }
 
--- or it is, and reaches circuit 1.
+-- or it is, and reaches circuit 1; for its own update this end lacked memory.
 abbrev pub closed_applied : World
 closed_applied =
     world_of (
@@ -128,6 +131,21 @@ abbrev pub LackHappens : Type 0
 LackHappens =
     Happens (before (spelling writing) []) (event.ServerStep 0) closed_unapplied
     × Happens (before (spelling writing) []) (event.ServerStep 0) closed_applied
+
+-- a server of TEMP and SLOW, and this end of its one circuit
+abbrev pub of_two : ServerEnd → Server
+of_two e = core_of (temp_now (long 21) ∷ slow_busy ∷ []) (given (Open e) ∷ []) 0
+
+-- It does not close if its own update got memory, too; nor is a write applied of an end that closes
+-- and has no subscription.
+abbrev pub LacksNotSo : Type 0
+LacksNotSo =
+    ((core : Server)
+    (l : LacksMemory (core_before (spelling writing) []) first
+    (end_0 (link (spelling writing) []) (entry_2 ∷ [])) core)
+    → l.written ≡ Some (λ (h : Handle). false) → ⊥)
+    × ((e : ServerEnd) (core : Server) → e.subscriptions ≡ [] → LacksMemory (of_two e) first e core
+    → core.applied ≡ 0)
 
 -- ---- a server begins again
 

@@ -2,9 +2,10 @@
 //! a restart, with what each leaves.
 ghost use Rattle.ca_model_examples.specs.ServerHappens.{AddHappens, AddsRefused, CannotBe};
 ghost use Rattle.ca_model_examples.specs.ServerHappens.{CutHappens, DatagramHappens, FinishHappens};
-ghost use Rattle.ca_model_examples.specs.ServerHappens.{FinishesRefused, LackHappens, PostHappens};
-ghost use Rattle.ca_model_examples.specs.ServerHappens.{PostsRefused, PumpHappens, RemoveHappens};
-ghost use Rattle.ca_model_examples.specs.ServerHappens.{RestartHappens, UpHappens, WriteHappens};
+ghost use Rattle.ca_model_examples.specs.ServerHappens.{FinishesRefused, LackHappens, LacksNotSo};
+ghost use Rattle.ca_model_examples.specs.ServerHappens.{PostHappens, PostsRefused, PumpHappens};
+ghost use Rattle.ca_model_examples.specs.ServerHappens.{RemoveHappens, RestartHappens, UpHappens};
+ghost use Rattle.ca_model_examples.specs.ServerHappens.{WriteHappens};
 
 /// A write is applied and reaches two subscriptions on two circuits; their updates leave in the
 /// order of the entries.
@@ -14,11 +15,13 @@ pub fn a_write_reaches_its_subscriptions()
 {}
 
 /// A circuit is cut, and a server begins again: puts that wait are withdrawn, and what waited to be
-/// sent may still come.
+/// sent may still come. A write is applied of an end that closes out of memory only if that lacked
+/// memory for its own update.
 pub fn ends_leave_what_waited()
     ensures cut { CutHappens }
     ensures restart { RestartHappens }
     ensures lacks_memory { LackHappens }
+    ensures lacks_not_so { LacksNotSo }
 {}
 
 /// A post reaches the subscriptions that share a mask bit with it.

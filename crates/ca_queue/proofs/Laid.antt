@@ -1,6 +1,7 @@
 -- The fields of an event queue, after each call.
 use Rattle.std.proofs.Common.{◌≡◌, ℕ, ◌+◌, ◌-◌, ◌<◌, ◌≤◌, Bool, true, false, not, ◌&&◌, ◌||◌, cond, List, [], ◌∷◌, ◌++◌, length, map, drop, Some, None, refl, sym, ap, ◌∙◌, subst, inl, inr, arith, ltb, leb}
 use Rattle.std.specs.List.{list_any, filter}
+use Rattle.std.specs.Prelude.{is_some}
 use Rattle.std.proofs.lemmas.Bool.{cases_Bool, both_ways, or_left, ltb-false}
 use Rattle.std.proofs.lemmas.List.{map-append, length-map}
 use Rattle.std.proofs.lemmas.List.Sums.{length-filter, count_by-le-length}
@@ -156,6 +157,15 @@ module _ {E : Type 0} where
   pub leaves_all : (q : Queue E) → may_take q.events_on q.waiting ≡ false → q ≡ with_front_taken q
   leaves_all q not_now =
       ap (λ (b : Bool). let r : Queue E = record { waiting = cond b (drop 1 q.waiting) q.waiting; subscriptions = q.subscriptions; events_on = q.events_on } in r) (sym not_now)
+
+  -- something waits, and may be taken or not
+  pub one_given : (on b : Bool) (entries : List (SubKey × E)) → may_take on entries ≡ b → (length entries ≡ 0 → ⊥) → b ≡ is_some (taken on entries)
+  one_given on b [] may some = absurd (some refl)
+  one_given on b (w ∷ q) may some = go b ∙ ap (λ (x : Bool). is_some (cond x (Some w) None)) (sym may)
+    where
+      go : (x : Bool) → x ≡ is_some (cond x (Some w) None)
+      go true = refl
+      go false = refl
 
   -- whether an entry may be taken, by the counts
   pub may_by_counts : (b : Bool) (entries : List (SubKey × E)) (subscriptions read : List Subscriber) (on : Bool) (places room : ℕ) → IsLaidOut entries subscriptions on places room → read ≡ subscriptions → b ≡ (on || list_any (λ s. ltb 1 s.waiting) read) → may_take on entries ≡ b

@@ -1,6 +1,7 @@
 -- Vocabulary: the queues of a circuit. Each of its subscriptions is in one of them.
 use Rattle.std.specs.Prelude.{ℕ, ◌≡◌, ◌<◌, ◌≤◌, Bool, true, false, if◌then◌else◌, List, [], Option}
-use Rattle.std.specs.Prelude.{Some, None, Result, Ok, Err, length, map, slice_set}
+use Rattle.std.specs.Prelude.{Some, None, Result, Ok, Err, length, map, option_and_then, slice_get}
+use Rattle.std.specs.Prelude.{slice_set}
 use Rattle.std.specs.List.{fold}
 use Rattle.ca_text.specs.declared.refusal.Refusal.{Refusal}
 use Rattle.ca_text.specs.declared.refusal.Refusal.TheVariants as refusal
@@ -32,6 +33,11 @@ module _ {E : Type 0} where
   -- the queue at a place has the subscription
   abbrev pub HasAt : List (Queue E) → ℕ → SubKey → Type 0
   HasAt qs place key = (q : Queue E) × At qs place q × (is_among key q.subscriptions ≡ true)
+
+  -- the entry that has this number from the front of the queue at this place, with its subscription
+  abbrev pub entry_in : List (Queue E) → (place index : ℕ) → Option (SubKey × E)
+  entry_in qs place index =
+      option_and_then (λ (q : Queue E). slice_get q.waiting index) (slice_get qs place)
 
   -- no queue has it
   abbrev pub HasNone : List (Queue E) → SubKey → Type 0

@@ -1,9 +1,9 @@
 //! The eight event queues of one circuit at a server. A subscription goes into the first queue with
 //! room; updates are taken from the first queue that has one to send.
-ghost use Rattle.std.specs.Prelude.{◌≡◌, ◌≤◌, IfOk, MatchOption, map, replicate};
+ghost use Rattle.std.specs.Prelude.{◌≡◌, ◌≤◌, IfOk, MatchOption, map, option_map, replicate};
 ghost use Rattle.ca_text.specs.Limits.{circuit_queues};
 ghost use Rattle.ca_queue.specs.Circuit.{AreFull, Begins, IsFirstWithRoom, HasAt, HasNone, Takes};
-ghost use Rattle.ca_queue.specs.Circuit.{queue_posted, without_each};
+ghost use Rattle.ca_queue.specs.Circuit.{entry_in, queue_posted, without_each};
 ghost use Rattle.ca_queue.specs.Keys.{same};
 ghost use Rattle.ca_queue.specs.Queue.{Queue, no_queue, switched};
 
@@ -115,6 +115,17 @@ impl<E: Drop, Q: Queues<E>> CircuitQueues<E, Q> {
             }
         }
         None
+    }
+
+    /// The entry that has this number from the front of the queue at this place, with its
+    /// subscription: None if there is none. Only a recorder of histories needs it.
+    pub fn entry(&self, place: usize, index: usize) -> Option<(SubKey, &E)>
+        ensures { option_map (λ w. (w.0, w.1.now)) result ≡ entry_in self.now place index }
+    {
+        if place >= self.queues.len() {
+            return None;
+        }
+        self.queues[place].entry(index)
     }
 
     /// Takes out a subscription and all its entries. The queue that has it is at this place.

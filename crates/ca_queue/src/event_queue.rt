@@ -13,7 +13,7 @@ ghost use Rattle.ca_queue.specs.Ring.{with_items};
 use crate::entry::{SubKey, is_same};
 use crate::lasts::Lasts;
 use crate::queues::Queues;
-use crate::ring::{key_of, make, pop, put, replace, waiting, waiting_in};
+use crate::ring::{entry_of, key_of, make, pop, put, replace, waiting, waiting_in};
 use ca_text::{QUEUE_LOW_PLACES, QUEUE_PLACES, QUEUE_SUBSCRIPTIONS, Refusal};
 use circular_buffer::HeapCircularBuffer;
 use std::alloc::Global;
@@ -112,6 +112,10 @@ impl<E: Drop> Queues<E> for EventQueue<E> {
         let behind = puts_since(self.puts, self.lasts.last(number));
         self.extra -= one_if_some(last_of(&self.ring, key, behind));
         Some((key, entry))
+    }
+
+    fn entry(&self, index: usize) -> Option<(SubKey, &E)> {
+        entry_of(&self.ring, index)
     }
 
     fn cancel(&mut self, key: SubKey) {

@@ -2,12 +2,13 @@
 //! the faster `event_queue.rt`, and simulated worlds use it.
 ghost use Rattle.std.specs.Prelude.{◌≡◌, ◌<◌, ◌≤◌, ◌++◌, ◌∷◌, [], IsTrue, OnOk, OnErr, length, map};
 ghost use Rattle.std.specs.Prelude.{filter, not, vec_capacity, nat_lt, nat_le, true, false, ◌-◌};
-ghost use Rattle.std.specs.Prelude.{◌&&◌, ◌||◌};
+ghost use Rattle.std.specs.Prelude.{◌&&◌, ◌||◌, is_some};
 ghost use Rattle.std.specs.VecDeque.{deque_capacity};
 ghost use Rattle.std.specs.List.{list_any};
 ghost use Rattle.ca_text.specs.Limits.{queue_low_places, queue_places, queue_subscriptions};
 ghost use Rattle.ca_queue.specs.Keys.{same};
 ghost use Rattle.ca_queue.specs.Layout.{HasRoom, count_at, is_roomy, recounted};
+ghost use Rattle.ca_queue.specs.Waiting.{taken};
 
 use crate::entry::{SubKey, is_same};
 use crate::places::{drop_entries, replace_last};
@@ -107,6 +108,13 @@ impl<E: Drop> Queues<E> for ListQueue<E> {
         Some((key, entry))
     }
 
+    fn entry(&self, index: usize) -> Option<(SubKey, &E)> {
+        match self.entries.get(index) {
+            None => None,
+            Some(entry) => Some((entry.0, &entry.1)),
+        }
+    }
+
     fn cancel(&mut self, key: SubKey) {
         drop_entries(&mut self.entries, key);
         forget(&mut self.subscriptions, key);
@@ -114,6 +122,36 @@ impl<E: Drop> Queues<E> for ListQueue<E> {
 
     fn set_events(&mut self, on: bool) {
         self.events_on = on;
+    }
+}
+
+impl<E: Drop> ListQueue<E> {
+    /// Makes the room for all that comes, so that `add` finds it. The queue stays as it is.
+    pub fn reserve(&mut self) -> Result<(), AllocError>
+        ensures same { self.new.0 ≡ self.old.0 }
+        ensures room { OnOk result (IsTrue self.new.1) }
+    {
+        if !self.subscriptions.is_empty() {
+            return Ok(());
+        }
+        make_room(&mut self.entries, &mut self.subscriptions)
+    }
+
+    /// How many entries wait.
+    pub fn waiting(&self) -> usize
+        ensures { result ≡ length self.now.0.waiting }
+    {
+        self.entries.len()
+    }
+
+    /// Whether an entry may be taken now.
+    pub fn may_give(&self) -> bool
+        ensures { result ≡ is_some (taken self.now.0.events_on self.now.0.waiting) }
+    {
+        if self.entries.len() == 0 {
+            return false;
+        }
+        may_take(&self.subscriptions, self.events_on)
     }
 }
 

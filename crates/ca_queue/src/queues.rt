@@ -1,6 +1,7 @@
 //! The trait of an event queue: what a post, a take, a cancel and a pause of updates do, however
 //! the queue is kept. Begin here; `event_queue.rt` is the one that servers use.
 ghost use Rattle.std.specs.Prelude.{◌≡◌, Bool, IsTrue, IsFalse, MatchResult, length, nat_le};
+ghost use Rattle.std.specs.Prelude.{option_map, slice_get};
 ghost use Rattle.ca_text.specs.Limits.{queue_subscriptions};
 ghost use Rattle.ca_queue.specs.Keys.{is_among};
 ghost use Rattle.ca_queue.specs.Waiting.{taken};
@@ -64,6 +65,12 @@ pub trait Queues<E> {
         ensures leaves { contents self.new ≡ with_front_taken (contents self.old) }
         ensures room { has_room self.new ≡ has_room self.old }
         ensures sound { IsSound (contents self.new) };
+
+    /// The entry that has this number from the front, with its subscription: None if fewer wait.
+    /// Only a recorder of histories needs it.
+    fn entry(&self, index: usize) -> Option<(SubKey, &E)>
+        ensures { option_map (λ w. (w.0, w.1.now)) result
+            ≡ slice_get (contents self.now).waiting index };
 
     /// Takes out this subscription and all its entries. The other entries keep their order.
     fn cancel(&mut self, key: SubKey)

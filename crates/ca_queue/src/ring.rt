@@ -63,6 +63,22 @@ pub(crate) fn key_of<E>(ring: &Option<HeapCircularBuffer<(SubKey, E)>>, index: u
     }
 }
 
+/// The entry that has this number from the front, with its subscription: None if fewer wait.
+pub(crate) fn entry_of<E>(
+    ring: &Option<HeapCircularBuffer<(SubKey, E)>>,
+    index: usize,
+) -> Option<(SubKey, &E)>
+    ensures { option_map (λ w. (w.0, w.1.now)) result ≡ slice_get (waits ring.now) index }
+{
+    match ring {
+        None => None,
+        Some(ring) => match ring.get(index) {
+            None => None,
+            Some(entry) => Some((entry.0, &entry.1)),
+        },
+    }
+}
+
 /// Puts this entry in the place of the one that has this number from the front.
 pub(crate) fn replace<E: Drop>(
     ring: &mut Option<HeapCircularBuffer<(SubKey, E)>>,

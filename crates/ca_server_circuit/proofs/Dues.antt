@@ -9,7 +9,8 @@ use Rattle.ca_wire.specs.Messages.{header_only, cancel_reply, cleared_reply, err
 use Rattle.ca_text.specs.Status.{bad_channel}
 use Rattle.ca_model.specs.Ends.{Peer}
 use Rattle.ca_model.specs.Due.{Action, Adds, Applies, Clears, Drops, Due, EventDue, Greets, IsCreated, IsNotCreated, Knows, Names, Nothing, Opens, PutDue, ReadDue, StrayDue, Switches, Waits, WriteDue, is_known, key_in, named, search_due}
-use Rattle.ca_server_circuit.specs.Handling.{AsksMemory, Creates, MayLack, Puts, Reads, Subscribes, Writes}
+use Rattle.ca_model.specs.ServerSteps.{NeedsMemory}
+use Rattle.ca_server_circuit.specs.Handling.{Creates, MayLack, Puts, Reads, Subscribes, Writes}
 
 -- the command of this number, of those that a server acts on
 abbrev pub command_at : ℕ → Command
@@ -96,7 +97,7 @@ due-other k m other =
 -- ---- memory may lack
 
 module _ (m : Fields) where
-  needs-some : (r : List Fields) (a : Action) → r ≢ [] → AsksMemory m r a
+  needs-some : (r : List Fields) (a : Action) → r ≢ [] → NeedsMemory m r a
   needs-some r (Applies n v b) h = tt
   needs-some r (Waits n v) h = tt
   needs-some r (Adds s) h = tt
@@ -111,13 +112,13 @@ module _ (m : Fields) where
   some-reply : (x : Fields) (xs : List Fields) → x ∷ xs ≡ [] → ⊥
   some-reply x xs e = cc
 
-  needs : (r : List Fields) (a : Action) (x : Fields) (xs : List Fields) → r ≡ x ∷ xs → AsksMemory m r a
+  needs : (r : List Fields) (a : Action) (x : Fields) (xs : List Fields) → r ≡ x ∷ xs → NeedsMemory m r a
   needs r a x xs is = needs-some r a (λ e. some-reply x xs (sym is ∙ e))
 
-  needs-action : (r : List Fields) (a b : Action) → AsksMemory m r b → a ≡ b → AsksMemory m r a
-  needs-action r a b h e = subst (λ (x : Action). AsksMemory m r x) (sym e) h
+  needs-action : (r : List Fields) (a b : Action) → NeedsMemory m r b → a ≡ b → NeedsMemory m r a
+  needs-action r a b h e = subst (λ (x : Action). NeedsMemory m r x) (sym e) h
 
-  stray-needs : (k : Knows) (reply : ℕ → Fields) (r : List Fields) (a : Action) → StrayDue k m reply r a → AsksMemory m r a
+  stray-needs : (k : Knows) (reply : ℕ → Fields) (r : List Fields) (a : Action) → StrayDue k m reply r a → NeedsMemory m r a
   stray-needs k reply r a s = needs r a (reply s.0) [] s.2
 
   pub lack-user : (k : Knows) → m.command ≡ command_number command.ClientName → k.settled ≡ false → (text_in m.payload ≡ [] → ⊥) → MayLack k m
@@ -149,14 +150,14 @@ module _ (m : Fields) where
   pub lack-create : (k : Knows) → m.command ≡ command_number command.CreateChannel → MayLack k m
   lack-create k is r a due = by (due.create is)
     where
-      by : IsCreated k m r a ⊎ IsNotCreated k m r a → AsksMemory m r a
+      by : IsCreated k m r a ⊎ IsNotCreated k m r a → NeedsMemory m r a
       by (inl c) = needs-some r a (λ e. some-reply _ _ (sym c.are ∙ e))
       by (inr c) = needs-some r a (λ e. some-reply _ _ (sym c.are ∙ e))
 
   pub lack-read : (k : Knows) → m.command ≡ command_number command.ReadNotify → MayLack k m
   lack-read k is r a due = by (due.read is)
     where
-      by : ReadDue k m r a ⊎ StrayDue k m (λ cid. status_reply m bad_channel) r a → AsksMemory m r a
+      by : ReadDue k m r a ⊎ StrayDue k m (λ cid. status_reply m bad_channel) r a → NeedsMemory m r a
       by (inl d) = elim d.2 [
         | inl h ↦ needs-some r a (λ e. some-reply _ _ (sym h.2 ∙ e))
         | inr h ↦ needs-some r a (λ e. some-reply _ _ (sym h.1.4 ∙ e))
@@ -166,21 +167,21 @@ module _ (m : Fields) where
   pub lack-write : (k : Knows) → m.command ≡ command_number command.Write → MayLack k m
   lack-write k is r a due = by (due.write is)
     where
-      by : WriteDue k m r a ⊎ StrayDue k m (λ cid. error_reply cid bad_channel m) r a → AsksMemory m r a
+      by : WriteDue k m r a ⊎ StrayDue k m (λ cid. error_reply cid bad_channel m) r a → NeedsMemory m r a
       by (inl d) = elim d.1 [
         | inl h ↦ needs-some r a (λ e. some-reply _ _ (sym h.2 ∙ e))
         | inr h ↦ needs-action r a (Applies d.0.channel.name h.0 false) tt h.3
       ]
       by (inr s) = stray-needs k (λ cid. error_reply cid bad_channel m) r a s
 
-  put-needs : (r : List Fields) (wait slow : Bool) (name : List ℕ) (value : _) → AsksMemory m r (if wait then Waits name value else Applies name value slow)
+  put-needs : (r : List Fields) (wait slow : Bool) (name : List ℕ) (value : _) → NeedsMemory m r (if wait then Waits name value else Applies name value slow)
   put-needs r true slow name value = tt
   put-needs r false slow name value = tt
 
   pub lack-put : (k : Knows) → m.command ≡ command_number command.WriteNotify → MayLack k m
   lack-put k is r a due = by (due.put is)
     where
-      by : PutDue k m r a ⊎ StrayDue k m (λ cid. status_reply m bad_channel) r a → AsksMemory m r a
+      by : PutDue k m r a ⊎ StrayDue k m (λ cid. status_reply m bad_channel) r a → NeedsMemory m r a
       by (inl d) = elim d.1 [
         | inl h ↦ needs-some r a (λ e. some-reply _ _ (sym h.2 ∙ e))
         | inr h ↦ needs-action r a _ (put-needs r _ _ _ _) h.3
@@ -190,7 +191,7 @@ module _ (m : Fields) where
   pub lack-subscribe : (k : Knows) → m.command ≡ command_number command.EventAdd → MayLack k m
   lack-subscribe k is r a due = by (due.subscribe is)
     where
-      by : EventDue k m r a ⊎ StrayDue k m (λ cid. error_reply cid bad_channel m) r a → AsksMemory m r a
+      by : EventDue k m r a ⊎ StrayDue k m (λ cid. error_reply cid bad_channel m) r a → NeedsMemory m r a
       by (inl d) = elim d.1 [
         | inl h ↦ needs-some r a (λ e. some-reply _ _ (sym h.2 ∙ e))
         | inr h ↦ needs-action r a _ tt h.2

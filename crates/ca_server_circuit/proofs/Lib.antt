@@ -24,6 +24,7 @@ pub mod Pumps
 pub mod Lost
 pub mod Peeked
 pub mod Imaging
+mod Sizes
 pub mod InPlace
 pub mod Watched
 pub mod AtOnce

@@ -1,5 +1,5 @@
 -- Working: what the end of a circuit makes of one message, with the records of its server.
-use Rattle.std.specs.Prelude.{ℕ, ◌≡◌, ◌≢◌, ◌==◌, ◌&&◌, ◌⊎◌, Bool, true, false, List, [], Some, map}
+use Rattle.std.specs.Prelude.{ℕ, ◌≡◌, ◌==◌, ◌&&◌, ◌⊎◌, Bool, true, false, List, [], Some, map}
 use Rattle.std.specs.Prelude.{option_map}
 use Rattle.ca_arena.specs.declared.handle.Handle.{Handle}
 use Rattle.ca_ids.specs.Table.{Table, by_wire, held, is_full, same_handle, under}
@@ -14,12 +14,12 @@ use Rattle.ca_text.specs.Command.{command_number}
 use Rattle.ca_text.specs.declared.command.Command.TheVariants as command
 use Rattle.ca_text.specs.Status.{bad_channel}
 use Rattle.ca_wire.specs.Fields.{Fields}
-use Rattle.ca_wire.specs.Messages.{error_reply, status_reply, text_in}
+use Rattle.ca_wire.specs.Messages.{error_reply, status_reply}
 use Rattle.ca_model.specs.Due.{Action, Adds, Applies, Clears, Due, EventDue, IsCreated}
-use Rattle.ca_model.specs.Due.{IsNotCreated, Knows, Names, Nothing, Opens, PutDue, ReadDue}
+use Rattle.ca_model.specs.Due.{IsNotCreated, Knows, Nothing, Opens, PutDue, ReadDue}
 use Rattle.ca_model.specs.Due.{StrayDue, Waits, WriteDue}
 use Rattle.ca_model.specs.Server.{OpenChannel, Server, ServerEnd, key_of}
-use Rattle.ca_model.specs.ServerSteps.{Acts, IsPut, known_channel, known_record}
+use Rattle.ca_model.specs.ServerSteps.{Acts, IsPut, NeedsMemory, known_channel, known_record}
 use Rattle.ca_server_circuit.specs.Effects.{effect_due}
 use Rattle.ca_server_circuit.specs.declared.effect.Effect.{Effect}
 use Rattle.ca_server_circuit.specs.declared.effect.Effect.TheVariants as told
@@ -140,20 +140,12 @@ pub record Replies (D : List Fields → Action → Type 0) (e new : ServerEnd) :
   pub due : D replies Nothing
   pub leaves : new ≡ replied replies e
 
--- Memory is asked for by a message that is answered, by one whose text is kept, and by one by which
--- a write is applied or waits or a subscription begins. A payload alone asks for none.
-abbrev pub AsksMemory : Fields → List Fields → Action → Type 0
-AsksMemory m replies (Applies name value busies) = Unit {0}
-AsksMemory m replies (Waits name value) = Unit {0}
-AsksMemory m replies (Adds s) = Unit {0}
-AsksMemory m replies (Names p) = (text_in m.payload ≢ []) ⊎ (replies ≢ [])
-AsksMemory m replies action = replies ≢ []
-
 -- Whatever is due for the message, there may be no memory for it. That something is always
 -- due is not shown here.
 abbrev pub MayLack : Knows → Fields → Type 0
 MayLack k m =
-    (replies : List Fields) (action : Action) → Due k m replies action → AsksMemory m replies action
+    (replies : List Fields) (action : Action) → Due k m replies action
+    → NeedsMemory m replies action
 
 -- ---- by commands: the relations of `Due`
 

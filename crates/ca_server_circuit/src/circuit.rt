@@ -9,7 +9,7 @@ ghost use Rattle.ca_server_circuit.specs.AtOnce.{ShowsAt};
 ghost use Rattle.ca_server_circuit.specs.Circuits.{CircuitIsSound, GivesAt, IsLive, SendsAt};
 ghost use Rattle.ca_server_circuit.specs.Circuits.{circuit_of, is_open};
 ghost use Rattle.ca_server_circuit.specs.Clearing.{ArePuts};
-ghost use Rattle.ca_server_circuit.specs.Concerned.{ConcernsOn, bytes_on, channels_on};
+ghost use Rattle.ca_server_circuit.specs.Concerned.{ConcernsOn, SizesOn, bytes_on, channels_on};
 ghost use Rattle.ca_server_circuit.specs.Ending.{ArePutsAt, EndsAt, IsLeft, WithdrawsAll};
 ghost use Rattle.ca_server_circuit.specs.Finishing.{RepliesAt};
 ghost use Rattle.ca_server_circuit.specs.Peeking.{NamesAt, peer_on};
@@ -319,6 +319,18 @@ impl Circuit {
     {
         match &self.state {
             CircuitState::Open(end) => end.subscriptions.concerned_at(place, name, mask),
+            CircuitState::Ended(_, _) => None,
+        }
+    }
+
+    /// How many bytes the update has at most behind its header that has this number from the front
+    /// of the queue at this place, if its end is open and one waits there. Only a recorder of
+    /// histories needs it.
+    pub fn update_size(&self, place: usize, index: usize) -> Option<usize>
+        ensures { SizesOn self.now place index result }
+    {
+        match &self.state {
+            CircuitState::Open(end) => end.update_size(place, index),
             CircuitState::Ended(_, _) => None,
         }
     }

@@ -11,7 +11,9 @@ ghost use Rattle.ca_wire.specs.Messages.{scalar, update};
 ghost use Rattle.ca_model.specs.Server.{concerns, with_post};
 ghost use Rattle.ca_model.specs.Updates.{ShowsTo};
 ghost use Rattle.ca_server_circuit.specs.AtOnce.{ShowsAtOnce};
+ghost use Rattle.ca_server_circuit.specs.Concerned.{ShowsWithin, SizesAt};
 ghost use Rattle.ca_server_circuit.specs.Pumping.{PumpsEnd, PumpsOne, scalar_update};
+ghost use Rattle.ca_server_circuit.specs.Subscribing.{events_of};
 ghost use Rattle.ca_server_subscriptions.specs.Subscribed.{IsAskable, is_on};
 
 use crate::end::End;
@@ -129,6 +131,31 @@ impl End {
         self.subscriptions.recycle(update);
         Ok(true)
     }
+
+    /// How many bytes the update has at most behind its header that has this number from the front
+    /// of the queue at this place, if one waits there. Only a recorder of histories needs it.
+    pub(crate) fn update_size(&self, place: usize, index: usize) -> Option<usize>
+        ensures { SizesAt (events_of self.now) place index result }
+    {
+        let Some((wanted, update)) = self.subscriptions.update_at(place, index) else {
+            return None;
+        };
+        Some(shown_size(&wanted, update))
+    }
+}
+
+/// How many bytes an update has at most behind its header that shows this to whoever asked so: an
+/// image, or as many zero bytes, and those of its padding.
+fn shown_size(wanted: &Wanted, shown: &Update) -> usize
+    requires { IsAskable wanted.now }
+    ensures { ShowsWithin wanted.now shown.now result }
+{
+    let count = count_for(wanted.count, shown);
+    let Ok(size) = image_size(wanted.data_type, count) else {
+        unreachable!()
+    };
+    shown.value().know();
+    size + 7
 }
 
 /// Shows an update as its subscription asks: GETFAIL and zero bytes if its elements have

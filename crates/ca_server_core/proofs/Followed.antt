@@ -18,7 +18,7 @@ use Rattle.ca_server_watchers.specs.Watching.{IsAmong, Watched, watching}
 use Rattle.ca_model.specs.Due.{Action, Adds, Applies, Clears, Drops, Greets, KnownChannel, Names, Nothing, Opens, Switches, Waits}
 use Rattle.ca_model.specs.Ends as why
 use Rattle.ca_model.specs.Server.{Ended, Open, OpenChannel, Server, ServerCircuit, ServerEnd, Subscription, key_of, with_post}
-use Rattle.ca_model.specs.ServerSteps.{Acts, MayEnd, Next, Reaches, Stepped, Steps, StepsAt, after_post, closed, is_write, output_of, reached, stored_now, write_mask}
+use Rattle.ca_model.specs.ServerSteps.{Acts, LacksMemory, MayEnd, NeedsMemory, Next, Reaches, Stepped, Steps, StepsAt, after_post, closed, is_write, output_of, reached, stored_now, write_mask}
 use Rattle.ca_model.specs.ServerSteps as steps
 use Rattle.ca_model.specs.Speech.{In, Stored}
 use Rattle.ca_server_circuit.specs.declared.cause.EndCause.{EndCause}
@@ -32,11 +32,11 @@ use Rattle.ca_server_circuit.specs.Ending.{EndsAt}
 use Rattle.ca_server_core.specs.Ending.{EndsIn}
 use Rattle.ca_server_core.specs.Following.{CoversFor, Follows, IsSettled, LedFor, Settles}
 use Rattle.ca_server_circuit.specs.Circuits.{is_open}
-use Rattle.ca_server_circuit.specs.Handling.{AsksMemory, Does, Fits, Recorded, Tells, is_wrote}
+use Rattle.ca_server_circuit.specs.Handling.{Does, Fits, Recorded, Tells, is_wrote}
 use Rattle.ca_server_core.specs.Reaching.{ReachesAll}
 use Rattle.ca_server_circuit.specs.Serving.{CircuitSteps}
 use Rattle.ca_server_core.specs.Effects.{action_at, action_of, message_at, message_of}
-use Rattle.ca_server_core.specs.Serving.{Closes, ClosesAt, LacksItself, Reports, StepsIn, more_applied, stepped}
+use Rattle.ca_server_core.specs.Serving.{Reports, StepsIn, more_applied, stepped}
 use Rattle.ca_server_core.specs.Sound.{IsSound}
 use Rattle.ca_server_circuit.specs.Stepping.{EndSteps, after_first, why_is}
 use Rattle.ca_server_core.proofs.Closing.{none-waits, not-ended, sound-freed}
@@ -46,7 +46,7 @@ use Rattle.ca_server_core.proofs.Led.{leads-changed}
 use Rattle.ca_server_core.proofs.Reached.{there-is}
 use Rattle.ca_server_core.proofs.Servers.{became, freed-changed, freed-nothing, same-parts, server_of, stayed}
 use Rattle.ca_server_circuit.proofs.Stays.{at-filtered, link-kept}
-use Rattle.ca_server_core.proofs.Stepped.{Makes, asks-needs, handled-next, none-wrote, not-some, step-at}
+use Rattle.ca_server_core.proofs.Stepped.{handled-next, none-wrote, not-some, step-at}
 use Rattle.ca_server_circuit.proofs.Dues.{lack-create}
 use Rattle.ca_server_circuit.proofs.Tables.{changed-back, changed-own, freed-back, held-back}
 
@@ -272,24 +272,24 @@ handled-output y s u h was e new m did D same out d =
     let sent : new.link.output ≡ was.link.output ++ spelled d.replies = ap (λ (x : ServerEnd). x.link.output) d.leaves ∙ ap (λ (l : LinkState). l.output ++ spelled d.replies) kept ∙ ap (λ (o : List ℕ). o ++ spelled d.replies) out in
     ap (λ (o : List ℕ). take (length was.link.output) o) sent ∙ first-left was.link d.replies
 
--- a step that handled a message whose action is one of these, and when it closes the end
+-- a step that handled a message whose action is one of these
 abbrev pub HandledBy : (P : Fields → Action → Type 0) → Server → Handle → Server → Type 0
-HandledBy P old h new = (d : Steps old h steps.Handled new) × P (message_of old h new d) (action_of old h new d) × Closes old h steps.Handled new
+HandledBy P old h new = (d : Steps old h steps.Handled new) × P (message_of old h new d) (action_of old h new d)
 
 -- any step, and that of it
 abbrev pub MakesBy : (P : Fields → Action → Type 0) → Server → Handle → Stepped → Server → Type 0
 MakesBy P old h steps.Handled new = HandledBy P old h new
-MakesBy P old h did new = Steps old h did new × Closes old h did new
+MakesBy P old h did new = Steps old h did new
 
-made-by : (P : Fields → Action → Type 0) (y : Server) (h : Handle) (did : Stepped) (new : Server) → MakesBy P y h did new → Makes y h did new
-made-by P y h steps.Handled new made = (made.0, made.2)
+made-by : (P : Fields → Action → Type 0) (y : Server) (h : Handle) (did : Stepped) (new : Server) → MakesBy P y h did new → Steps y h did new
+made-by P y h steps.Handled new made = made.0
 made-by P y h steps.NeedBytes new made = made
 made-by P y h steps.OutputFull new made = made
 made-by P y h (steps.Closed w left) new made = made
 
 step-by : (P : Fields → Action → Type 0) (y : Server) (h : Handle) (e : ServerEnd) (new : Server) → under y.circuits h ≡ Some (Open e) → (d : StepsAt y h (Some (Open e)) steps.Handled new) → P d.0.m d.0.action → HandledBy P y h new
 step-by P y h e new there d p =
-    subst (λ (o : Option ServerCircuit). (z : StepsAt y h o steps.Handled new) × P (message_at y h new o z) (action_at y h new o z) × ClosesAt y h o steps.Handled new) (sym there) (d, p, tt)
+    subst (λ (o : Option ServerCircuit). (z : StepsAt y h o steps.Handled new) × P (message_at y h new o z) (action_at y h new o z)) (sym there) (d, p)
 
 module _ (port now n : ℕ) (b : Clock) (s u : Store) (t : Circuits) (h : Handle) (e new : ServerEnd) (did : FollowUp) (there : under t h ≡ Some (Open e)) (d : EndSteps port h e s (step.Handled did) new u) (P : Fields → Action → Type 0) (holds : P d.0.m d.1.action) where
   abbrev y : Server
@@ -324,14 +324,14 @@ module _ (port now n : ℕ) (b : Clock) (s u : Store) (t : Circuits) (h : Handle
       (step-by P y h e (server_of port x now last b k) there (the-next.0, gone, stays, reach) (subst (λ (z : Fields). P z the-next.0.action) (sym the-next.3) (subst (λ (a : Action). P d.0.m a) (sym the-next.2) holds))))
 
   -- it has ended out of memory for what follows
-  ended-after : (x : Store) (last : Circuits) (result : CoreStep) (final : Circuits) (left : List ℕ) → under last h ≡ Some (Ended why.OutOfMemory left) → take (length e.link.output) left ≡ e.link.output → Settles last h (length e.link.output) result final → LacksItself y h e (server_of port x now (with_freed h last) b k)
+  ended-after : (x : Store) (last : Circuits) (result : CoreStep) (final : Circuits) (left : List ℕ) → under last h ≡ Some (Ended why.OutOfMemory left) → take (length e.link.output) left ≡ e.link.output → Settles last h (length e.link.output) result final → LacksMemory y h e (server_of port x now (with_freed h last) b k)
       → MakesBy P y h (stepped result) (server_of port x now final b k)
   ended-after x last result final left at first settled lacks =
       let answer : stepped result ≡ steps.Closed why.OutOfMemory (take (length e.link.output) left) = subst (λ (o : Option ServerCircuit). IsSettled o (length e.link.output) result) at settled.0 in
       let same : final ≡ with_freed h last = settled.1 ∙ ap (λ (o : Option ServerCircuit). cond (is_open o) last (with_freed h last)) at in
       subst (λ (r : Stepped). MakesBy P y h r (server_of port x now final b k)) (sym (answer ∙ ap (λ (l : List ℕ). steps.Closed why.OutOfMemory l) first))
       (subst (λ (c : Circuits). MakesBy P y h (steps.Closed why.OutOfMemory e.link.output) (server_of port x now c b k)) (sym same)
-      (step-at port now n b y h (Open e) (steps.Closed why.OutOfMemory e.link.output) (server_of port x now (with_freed h last) b k) there (refl, lacks.lacks) lacks))
+      (step-at port now n b y h (Open e) (steps.Closed why.OutOfMemory e.link.output) (server_of port x now (with_freed h last) b k) there (refl, lacks)))
 
   left-is : take (length e.link.output) new.link.output ≡ e.link.output
   left-is = handled-output y s u h e (after_first d.0) new d.0.m did _ refl refl d.1
@@ -378,24 +378,20 @@ module _ (port now n : ℕ) (b : Clock) (s u : Store) (t : Circuits) (h : Handle
           on true out v at reach =
               let ended : under last h ≡ Some (Ended why.OutOfMemory new.link.output) = at ∙ ap (λ (z : Bool). Some (cond z (Ended why.OutOfMemory new.link.output) (Open (with_post name write_mask v new)))) out in
               let clear : withdrawn (λ (p : Put). same_handle p.circuit h) (records_of x) ≡ records_of x = none-waits (records_of x) last h sound (λ z open_at. not-ended z why.OutOfMemory new.link.output (some_is (Open z) (Ended why.OutOfMemory new.link.output) (sym open_at ∙ ended))) in
-              let asks = subst (λ (a : Action). AsksMemory the-next.0.m the-next.0.replies a) (sym is) tt in
               ended-after x last result final new.link.output ended left-is settled (record {
-                lacks = record {
-                  next = the-next.0;
-                  needs = asks-needs the-next.0.m the-next.0.replies the-next.0.action asks;
-                  written = Some gone;
-                  mid = server_of port x now last b k;
-                  left_is = (ap (λ (a : Action). is_write a) is, reach);
-                  leaves = same-parts port now b x.rules x.rules (records_of x) _ x.stamp x.stamp (with_freed h last) _ k k refl (sym clear) refl refl refl;
-                };
-                asks = asks;
+                next = the-next.0;
+                needs = subst (λ (a : Action). NeedsMemory the-next.0.m the-next.0.replies a) (sym is) tt;
+                written = Some gone;
                 itself = λ g wrote. subst (λ (f : Handle → Bool). f h ≡ true) (some_is gone g wrote) out;
+                mid = server_of port x now last b k;
+                left_is = (ap (λ (a : Action). is_write a) is, reach);
+                leaves = same-parts port now b x.rules x.rules (records_of x) _ x.stamp x.stamp (with_freed h last) _ k k refl (sym clear) refl refl refl;
               })
 
   -- a subscription that began, or a channel that was created
-  begins : (x : Store) (last : Circuits) (result : CoreStep) (final : Circuits) → ((z : Server) → Reaches the-next.0.action (λ (g : Handle). false) z z) → AsksMemory the-next.0.m the-next.0.replies the-next.0.action → records_of u ≡ records_of s → is_wrote did ≡ false → ((last ≡ mid_table) × (x ≡ u)) ⊎ EndsIn mid_table h u why.OutOfMemory last x → Settles last h (length e.link.output) result final
+  begins : (x : Store) (last : Circuits) (result : CoreStep) (final : Circuits) → ((z : Server) → Reaches the-next.0.action (λ (g : Handle). false) z z) → NeedsMemory the-next.0.m the-next.0.replies the-next.0.action → records_of u ≡ records_of s → is_wrote did ≡ false → ((last ≡ mid_table) × (x ≡ u)) ⊎ EndsIn mid_table h u why.OutOfMemory last x → Settles last h (length e.link.output) result final
       → MakesBy P y h (stepped result) (server_of port x now final b k)
-  begins x last result final reach asks rs-same quiet f settled = by f
+  begins x last result final reach needs rs-same quiet f settled = by f
     where
       count-is : k ≡ n
       count-is = ap (λ (z : Bool). more_applied z n) quiet
@@ -420,16 +416,13 @@ module _ (port now n : ℕ) (b : Clock) (s u : Store) (t : Circuits) (h : Handle
               let at : under last h ≡ Some (Ended why.OutOfMemory new.link.output) = ap (λ (w : Circuits). under w h) last_is ∙ changed-own (λ (w : ServerCircuit). Ended why.OutOfMemory new.link.output) mid_table h (Open new) here in
               let freed : with_freed h last ≡ with_freed h t = ap (λ (w : Circuits). with_freed h w) last_is ∙ freed-changed mid_table h (Open new) (Ended why.OutOfMemory new.link.output) here ∙ freed-changed t h (Open e) (Open new) there in
               ended-after x last result final new.link.output at left-is settled (record {
-                lacks = record {
-                  next = the-next.0;
-                  needs = asks-needs the-next.0.m the-next.0.replies the-next.0.action asks;
-                  written = None;
-                  mid = y;
-                  left_is = refl;
-                  leaves = same-parts port now b x.rules s.rules (records_of x) _ x.stamp s.stamp (with_freed h last) (with_freed h t) k n (did_end.1.rules ∙ d.1.rules) (did_end.1.records ∙ ap (λ (rs : List Record). withdrawn (λ (p : Put). same_handle p.circuit h) rs) rs-same) (did_end.1.stamp ∙ d.1.stamp) freed count-is;
-                };
-                asks = asks;
+                next = the-next.0;
+                needs = needs;
+                written = None;
                 itself = λ g wrote. none-wrote g wrote;
+                mid = y;
+                left_is = refl;
+                leaves = same-parts port now b x.rules s.rules (records_of x) _ x.stamp s.stamp (with_freed h last) (with_freed h t) k n (did_end.1.rules ∙ d.1.rules) (did_end.1.records ∙ ap (λ (rs : List Record). withdrawn (λ (p : Put). same_handle p.circuit h) rs) rs-same) (did_end.1.stamp ∙ d.1.stamp) freed count-is;
               })
 
   pub handled-all : (x : Store) (last : Circuits) (result : CoreStep) (final : Circuits) → Follows did h mid_table u last x → IsSound (records_of x) last → Settles last h (length e.link.output) result final → MakesBy P y h (stepped result) (server_of port x now final b k)
@@ -443,7 +436,7 @@ module _ (port now n : ℕ) (b : Clock) (s u : Store) (t : Circuits) (h : Handle
           let action = the-next.2 ∙ is in
           begins x last result final
           (λ z. subst (λ (a : Action). Reaches a (λ (g : Handle). false) z z) (sym action) ((λ g. refl), refl))
-          (subst (λ (a : Action). AsksMemory the-next.0.m the-next.0.replies a) (sym action) tt)
+          (subst (λ (a : Action). NeedsMemory the-next.0.m the-next.0.replies a) (sym action) tt)
           (subst (λ (a : Action). Recorded (records_of s) s.stamp h (after_first d.0) d.0.m a (records_of u)) is d.1.records)
           (ap is_wrote told.2)
           (subst (λ (z : FollowUp). Follows z h mid_table u last x) told.2 f) settled
@@ -480,9 +473,9 @@ made-followed-by y port now n k waited b s u x t after last final h did q result
             handled-all port now n b s u t h e d.0 did there d.1 P (holds d.1.0.m d.1.1.action d.1.1.tells) x last result final (subst (λ (z : Circuits). Follows did h z u last x) at f) sound (subst (λ (m : ℕ). Settles last h m result final) output settled)
         by (Ended v left) new there d changed = not-some (step.Handled did) d.0
 
-pub made-followed : (y : Server) (port now n k waited : ℕ) (b : Clock) (s u x : Store) (t after last final : Circuits) (h : Handle) (did : FollowUp) (q : Bool) (result : CoreStep) → server_of port s now t b n ≡ y → q ≡ is_wrote did → k ≡ more_applied q n → waited ≡ length (output_of (under y.circuits h))
-    → StepsIn port t h s (Some (step.Handled did)) after u → Follows did h after u last x → IsSound (records_of x) last → Settles last h waited result final → Makes y h (stepped result) (server_of port x now final b k)
-made-followed y port now n k waited b s u x t after last final h did q result is wrote more long steps_in f sound settled =
+pub viewed-followed : (y : Server) (port now n k waited : ℕ) (b : Clock) (s u x : Store) (t after last final : Circuits) (h : Handle) (did : FollowUp) (q : Bool) (result : CoreStep) → server_of port s now t b n ≡ y → q ≡ is_wrote did → k ≡ more_applied q n → waited ≡ length (output_of (under y.circuits h))
+    → StepsIn port t h s (Some (step.Handled did)) after u → Follows did h after u last x → IsSound (records_of x) last → Settles last h waited result final → Steps y h (stepped result) (server_of port x now final b k)
+viewed-followed y port now n k waited b s u x t after last final h did q result is wrote more long steps_in f sound settled =
     made-by (λ (m : Fields) (a : Action). Unit {0}) y h (stepped result) (server_of port x now final b k)
     (made-followed-by y port now n k waited b s u x t after last final h did q result is wrote more long steps_in f sound settled (λ (m : Fields) (a : Action). Unit {0}) (λ m a told. tt))
 
@@ -528,9 +521,3 @@ none-thins port s u t after last h did (inl g) r = by g.0 g.1 g.2 g.3 g.4
     by (Open e) new there was changed = absurd was
     by (Ended w left) new there was changed =
         subst (λ (z : Circuits). Thins t z) (sym (r.1 ∙ ap (λ (z : Circuits). with_freed h z) (stayed t after h new (Ended w left) there changed was.1))) (thins-freed t h)
-
--- what the statement says of it
-pub viewed-followed : (y : Server) (port now n k waited : ℕ) (b : Clock) (s u x : Store) (t after last final : Circuits) (h : Handle) (did : FollowUp) (q : Bool) (result : CoreStep) → server_of port s now t b n ≡ y → q ≡ is_wrote did → k ≡ more_applied q n → waited ≡ length (output_of (under y.circuits h))
-    → StepsIn port t h s (Some (step.Handled did)) after u → Follows did h after u last x → IsSound (records_of x) last → Settles last h waited result final → Steps y h (stepped result) (server_of port x now final b k)
-viewed-followed y port now n k waited b s u x t after last final h did q result is wrote more long steps_in f sound settled =
-    (made-followed y port now n k waited b s u x t after last final h did q result is wrote more long steps_in f sound settled).0

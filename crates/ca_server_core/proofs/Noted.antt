@@ -20,7 +20,7 @@ use Rattle.ca_model.specs.Due.{Action, Adds, Applies, Clears, Drops, Greets, Nam
 use Rattle.ca_model.specs.Ends.{Why}
 use Rattle.ca_model.specs.Ends as why
 use Rattle.ca_model.specs.Server.{Ended, Open, Server, ServerCircuit, ServerEnd}
-use Rattle.ca_model.specs.ServerSteps.{Stepped}
+use Rattle.ca_model.specs.ServerSteps.{Stepped, Steps}
 use Rattle.ca_model.specs.ServerSteps as steps
 use Rattle.ca_model.specs.Speech.{In}
 use Rattle.ca_server_circuit.specs.declared.cause.EndCause.{EndCause}
@@ -46,7 +46,7 @@ use Rattle.ca_server_core.proofs.Followed.{HandledBy}
 use Rattle.ca_server_core.proofs.Nexts.{viewed-finish}
 use Rattle.ca_server_core.proofs.Reached.{there-is}
 use Rattle.ca_server_core.proofs.Servers.{became, server_of, stayed}
-use Rattle.ca_server_core.proofs.Stepped.{Makes, not-some}
+use Rattle.ca_server_core.proofs.Stepped.{not-some}
 
 abbrev Circuits : Type 0
 Circuits = Table ServerCircuit
@@ -276,7 +276,7 @@ none-closes port s u t after last h did (inl g) r handled = by g.0 g.1 g.2 g.3 g
         never-closed w left (sym (subst (λ (o : Option ServerCircuit). IsReport o (stepped did)) found r.0) ∙ handled)
 
 -- nothing is to be noted of them
-pub noting-none : (y : Server) (h : Handle) (did : Stepped) (waiting : ℕ) (new : Server) → (did ≡ steps.Handled → ⊥) → Makes y h did new → ServesAndPumps y h did waiting new
+pub noting-none : (y : Server) (h : Handle) (did : Stepped) (waiting : ℕ) (new : Server) → (did ≡ steps.Handled → ⊥) → Steps y h did new → ServesAndPumps y h did waiting new
 noting-none y h steps.Handled waiting new other made = absurd (other refl)
 noting-none y h steps.NeedBytes waiting new other made = made
 noting-none y h steps.OutputFull waiting new other made = made

@@ -13,11 +13,10 @@ use Rattle.ca_text.specs.Limits.{arena_slots}
 use Rattle.ca_text.specs.Place.{At}
 use Rattle.ca_text.proofs.Places.{some_is}
 use Rattle.ca_wire.specs.Fields.{Fields}
-use Rattle.ca_wire.specs.Messages.{text_in}
 use Rattle.ca_model.specs.Due.{Action, Adds, Applies, Clears, Drops, Due, Greets, Names, Nothing, Opens, Switches, Waits}
 use Rattle.ca_model.specs.Ends as why
 use Rattle.ca_model.specs.Server.{Ended, Open, Server, ServerCircuit, ServerEnd}
-use Rattle.ca_model.specs.ServerSteps.{Acts, Handles, NeedsMemory, Next, Reaches, Records, Stepped, Steps, StepsAt, StepsOpen, after_post, closed, counted, is_write, knows, reached, stored_now, with_end, write_mask}
+use Rattle.ca_model.specs.ServerSteps.{Acts, Handles, LacksMemory, Next, Reaches, Records, Stepped, Steps, StepsAt, StepsOpen, after_post, closed, counted, is_write, knows, reached, stored_now, with_end, write_mask}
 use Rattle.ca_model.specs.ServerSteps as steps
 use Rattle.ca_server_circuit.specs.declared.cause.EndCause.{EndCause}
 use Rattle.ca_server_circuit.specs.declared.cause.EndCause.TheVariants as cause
@@ -28,10 +27,10 @@ use Rattle.ca_server_core.specs.declared.stepping.CoreStep.TheVariants as own
 use Rattle.ca_server_circuit.specs.declared.step.FollowUp.{FollowUp}
 use Rattle.ca_server_circuit.specs.Circuits.{is_open}
 use Rattle.ca_server_circuit.specs.Ending.{KeepsPlaces, WithdrawsAll}
-use Rattle.ca_server_circuit.specs.Handling.{AsksMemory, Does, Recorded, Tells, is_wrote, known, replied}
+use Rattle.ca_server_circuit.specs.Handling.{Does, Recorded, Tells, is_wrote, known, replied}
 use Rattle.ca_server_circuit.specs.Serving.{CircuitSteps}
 use Rattle.ca_server_core.specs.Following.{IsSettled, Settles}
-use Rattle.ca_server_core.specs.Serving.{Closes, ClosesAt, ClosesOpen, IsReport, LacksItself, Reports, StepsIn, more_applied, stepped}
+use Rattle.ca_server_core.specs.Serving.{IsReport, Reports, StepsIn, more_applied, stepped}
 use Rattle.ca_server_circuit.specs.Sound.{EndIsSound}
 use Rattle.ca_server_core.specs.Sound.{IsSound}
 use Rattle.ca_dbr.specs.Octets.{AreBytes}
@@ -45,20 +44,6 @@ use Rattle.ca_dbr.proofs.LongBytes.{are-back, are-front}
 use Rattle.ca_server_core.proofs.Servers.{became, freed-changed, freed-nothing, made_of, same-parts, server_of, stayed}
 use Rattle.ca_server_circuit.proofs.Tables.{changed-own}
 use Rattle.ca_server_circuit.proofs.Walking.{keeps-same}
-
--- a message that asks for memory may need it, as the statement has it
-pub asks-needs : (m : Fields) (replies : List Fields) (a : Action) → AsksMemory m replies a → NeedsMemory m replies a
-asks-needs m replies (Applies name value busies) asks = tt
-asks-needs m replies (Waits name value) asks = tt
-asks-needs m replies (Adds s) asks = tt
-asks-needs m replies Nothing asks = inr asks
-asks-needs m replies Greets asks = inr asks
-asks-needs m replies (Names p) (inl text) = inl (λ none. text (ap text_in none))
-asks-needs m replies (Names p) (inr some) = inr some
-asks-needs m replies (Opens c) asks = inr asks
-asks-needs m replies (Clears sid) asks = inr asks
-asks-needs m replies (Drops k) asks = inr asks
-asks-needs m replies (Switches on) asks = inr asks
 
 -- ---- nothing changes
 
@@ -76,10 +61,6 @@ each-same f n (p ∷ t) same =
 -- no put is taken out
 pub none-gone : (rs : List Record) → withdrawn (λ (p : Put). false) rs ≡ rs
 none-gone rs = sym (none-of (λ (p : Put). false) rs (λ i k q w at at'. refl))
-
--- what a step makes of the server, and when it closes the end
-abbrev pub Makes : Server → Handle → Stepped → Server → Type 0
-Makes old h did new = Steps old h did new × Closes old h did new
 
 pub none-wrote : {A : Type 0} (gone : Handle → Bool) → (let none : Option (Handle → Bool) = None in none ≡ Some gone) → A
 none-wrote gone is = absurd cc
@@ -137,8 +118,8 @@ module _ (port now n : ℕ) (b : Clock) where
     on = i.on;
   }
 
-  pub step-at : (y : Server) (h : Handle) (c : ServerCircuit) (did : Stepped) (new : Server) → under y.circuits h ≡ Some c → StepsAt y h (Some c) did new → ClosesAt y h (Some c) did new → Makes y h did new
-  step-at y h c did new there is own = (subst (λ (o : Option ServerCircuit). StepsAt y h o did new) (sym there) is, subst (λ (o : Option ServerCircuit). ClosesAt y h o did new) (sym there) own)
+  pub step-at : (y : Server) (h : Handle) (c : ServerCircuit) (did : Stepped) (new : Server) → under y.circuits h ≡ Some c → StepsAt y h (Some c) did new → Steps y h did new
+  step-at y h c did new there is = subst (λ (o : Option ServerCircuit). StepsAt y h o did new) (sym there) is
 
   -- ---- a message was handled
 
@@ -173,16 +154,16 @@ module _ (port now n : ℕ) (b : Clock) where
   same-server s u t after su ta = ap (λ (x : Store). server_of port x now after b n) su ∙ ap (λ (x : Table ServerCircuit). server_of port s now x b n) ta
 
   idle-steps : (s u : Store) (t after : Table ServerCircuit) (h : Handle) (e new : ServerEnd) → under t h ≡ Some (Open e) → EndSteps port h e s step.NeedBytes new u → after ≡ with_changed (λ (x : ServerCircuit). Open new) h t
-      → Makes (server_of port s now t b n) h steps.NeedBytes (server_of port u now after b n)
+      → Steps (server_of port s now t b n) h steps.NeedBytes (server_of port u now after b n)
   idle-steps s u t after h e new there did changed =
       step-at (server_of port s now t b n) h (Open e) steps.NeedBytes (server_of port u now after b n) there
-      (did.0, did.1, did.2, same-server s u t after did.4 (stayed t after h (Open new) (Open e) there changed (ap (λ (x : ServerEnd). Open x) did.3))) tt
+      (did.0, did.1, did.2, same-server s u t after did.4 (stayed t after h (Open new) (Open e) there changed (ap (λ (x : ServerEnd). Open x) did.3)))
 
   full-steps : (s u : Store) (t after : Table ServerCircuit) (h : Handle) (e new : ServerEnd) → under t h ≡ Some (Open e) → EndSteps port h e s step.OutputFull new u → after ≡ with_changed (λ (x : ServerCircuit). Open new) h t
-      → Makes (server_of port s now t b n) h steps.OutputFull (server_of port u now after b n)
+      → Steps (server_of port s now t b n) h steps.OutputFull (server_of port u now after b n)
   full-steps s u t after h e new there did changed =
       step-at (server_of port s now t b n) h (Open e) steps.OutputFull (server_of port u now after b n) there
-      (did.0, same-server s u t after did.2 (stayed t after h (Open new) (Open e) there changed (ap (λ (x : ServerEnd). Open x) did.1))) tt
+      (did.0, same-server s u t after did.2 (stayed t after h (Open new) (Open e) there changed (ap (λ (x : ServerEnd). Open x) did.1)))
 
   -- ---- an end closes
 
@@ -196,7 +177,7 @@ module _ (port now n : ℕ) (b : Clock) where
       let front = are-front x.takes.0 x.rest (subst AreBytes x.takes.2 are) in
       are-back x.takes.1.head x.m.payload (subst AreBytes x.takes.1.are front)
 
-  lacks : (s : Store) (t : Table ServerCircuit) (h : Handle) (e : ServerEnd) (new : Server) → EndIsSound (records_of s) h e → BreaksBy port s e cause.OutOfMemory → new ≡ closed h (server_of port s now t b n) → LacksItself (server_of port s now t b n) h e new
+  lacks : (s : Store) (t : Table ServerCircuit) (h : Handle) (e : ServerEnd) (new : Server) → EndIsSound (records_of s) h e → BreaksBy port s e cause.OutOfMemory → new ≡ closed h (server_of port s now t b n) → LacksMemory (server_of port s now t b n) h e new
   lacks s t h e new i did is =
       let x = did.0 in
       let y : Server = server_of port s now t b n in
@@ -218,24 +199,20 @@ module _ (port now n : ℕ) (b : Clock) where
           leaves = refl;
         };
       } in
-      let asks : AsksMemory x.m c.replies c.action = did.2 c.replies c.action c.due in
       record {
-        lacks = record {
-          next = next;
-          needs = asks-needs x.m c.replies c.action asks;
-          written = None;
-          mid = y;
-          left_is = refl;
-          leaves = is;
-        };
-        asks = asks;
+        next = next;
+        needs = did.2 c.replies c.action c.due;
+        written = None;
         itself = λ gone wrote. none-wrote gone wrote;
+        mid = y;
+        left_is = refl;
+        leaves = is;
       }
 
-  breaks-steps : (s : Store) (t : Table ServerCircuit) (h : Handle) (e : ServerEnd) (c : EndCause) (new : Server) → EndIsSound (records_of s) h e → BreaksBy port s e c → new ≡ closed h (server_of port s now t b n) → StepsOpen (server_of port s now t b n) h e (steps.Closed (why_is c) e.link.output) new × ClosesOpen (server_of port s now t b n) h e (steps.Closed (why_is c) e.link.output) new
-  breaks-steps s t h e cause.OutOfMemory new i did is = (let l = lacks s t h e new i did is in ((refl, l.lacks), l))
-  breaks-steps s t h e cause.Misaligned new i did is = ((did.0, (refusal.Misaligned, did.1, refl), refl, is), tt)
-  breaks-steps s t h e cause.TooLarge new i did is = ((did.0, (refusal.TooLarge, did.1, refl), refl, is), tt)
+  breaks-steps : (s : Store) (t : Table ServerCircuit) (h : Handle) (e : ServerEnd) (c : EndCause) (new : Server) → EndIsSound (records_of s) h e → BreaksBy port s e c → new ≡ closed h (server_of port s now t b n) → StepsOpen (server_of port s now t b n) h e (steps.Closed (why_is c) e.link.output) new
+  breaks-steps s t h e cause.OutOfMemory new i did is = (refl, lacks s t h e new i did is)
+  breaks-steps s t h e cause.Misaligned new i did is = (did.0, (refusal.Misaligned, did.1, refl), refl, is)
+  breaks-steps s t h e cause.TooLarge new i did is = (did.0, (refusal.TooLarge, did.1, refl), refl, is)
   breaks-steps s t h e cause.Cut new i did is = absurd did
 
 -- ---- by what the step of one circuit did
@@ -292,19 +269,19 @@ full-same port s u t after h (inl g) = by g.0 g.1 g.2 g.3 g.4
 pub still-sound : (s u : Store) (t after : Table ServerCircuit) → (u ≡ s) × (after ≡ t) → IsSound (records_of s) t → IsSound (records_of u) after
 still-sound s u t after e i = subst (λ (x : Table ServerCircuit). IsSound (records_of u) x) (sym e.1) (subst (λ (x : Store). IsSound (records_of x) t) (sym e.0) i)
 
-pub steps-idle : (port now n : ℕ) (b : Clock) (s u : Store) (t after : Table ServerCircuit) (h : Handle) → StepsIn port t h s (Some step.NeedBytes) after u → Makes (server_of port s now t b n) h steps.NeedBytes (server_of port u now after b n)
+pub steps-idle : (port now n : ℕ) (b : Clock) (s u : Store) (t after : Table ServerCircuit) (h : Handle) → StepsIn port t h s (Some step.NeedBytes) after u → Steps (server_of port s now t b n) h steps.NeedBytes (server_of port u now after b n)
 steps-idle port now n b s u t after h (inr none) = not-some step.NeedBytes none.1
 steps-idle port now n b s u t after h (inl g) = by g.0 g.1 g.2 g.3 g.4
   where
-    by : (c new : ServerCircuit) → under t h ≡ Some c → CircuitSteps port h c s (Some step.NeedBytes) new u → after ≡ with_changed (λ (x : ServerCircuit). new) h t → Makes (server_of port s now t b n) h steps.NeedBytes (server_of port u now after b n)
+    by : (c new : ServerCircuit) → under t h ≡ Some c → CircuitSteps port h c s (Some step.NeedBytes) new u → after ≡ with_changed (λ (x : ServerCircuit). new) h t → Steps (server_of port s now t b n) h steps.NeedBytes (server_of port u now after b n)
     by (Open e) new there did changed = idle-steps port now n b s u t after h e did.0 there did.1 (became t after h new (Open did.0) changed did.4)
     by (Ended w left) new there did changed = not-some step.NeedBytes did.0
 
-pub steps-full : (port now n : ℕ) (b : Clock) (s u : Store) (t after : Table ServerCircuit) (h : Handle) → StepsIn port t h s (Some step.OutputFull) after u → Makes (server_of port s now t b n) h steps.OutputFull (server_of port u now after b n)
+pub steps-full : (port now n : ℕ) (b : Clock) (s u : Store) (t after : Table ServerCircuit) (h : Handle) → StepsIn port t h s (Some step.OutputFull) after u → Steps (server_of port s now t b n) h steps.OutputFull (server_of port u now after b n)
 steps-full port now n b s u t after h (inr none) = not-some step.OutputFull none.1
 steps-full port now n b s u t after h (inl g) = by g.0 g.1 g.2 g.3 g.4
   where
-    by : (c new : ServerCircuit) → under t h ≡ Some c → CircuitSteps port h c s (Some step.OutputFull) new u → after ≡ with_changed (λ (x : ServerCircuit). new) h t → Makes (server_of port s now t b n) h steps.OutputFull (server_of port u now after b n)
+    by : (c new : ServerCircuit) → under t h ≡ Some c → CircuitSteps port h c s (Some step.OutputFull) new u → after ≡ with_changed (λ (x : ServerCircuit). new) h t → Steps (server_of port s now t b n) h steps.OutputFull (server_of port u now after b n)
     by (Open e) new there did changed = full-steps port now n b s u t after h e did.0 there did.1 (became t after h new (Open did.0) changed did.4)
     by (Ended w left) new there did changed = not-some step.OutputFull did.0
 
@@ -323,11 +300,11 @@ broke-sound port s u t after last h c did (inl g) r i = by g.0 g.1 g.2 g.3 g.4
         subst (λ (z : Table ServerCircuit). IsSound (records_of u) z) (sym gone) (subst (λ (rs : List Record). IsSound rs (with_freed h t)) (sym broke.2.records) (sound-freed (records_of s) t h i))
     by (Ended w left) new there broke changed = not-some (step.Breaks c) broke.0
 
-pub steps-broke : (port now n : ℕ) (b : Clock) (s u : Store) (t after last : Table ServerCircuit) (h : Handle) (c : EndCause) (did : CoreStep) → StepsIn port t h s (Some (step.Breaks c)) after u → Reports after h did last → IsSound (records_of s) t → Makes (server_of port s now t b n) h (stepped did) (server_of port u now last b n)
+pub steps-broke : (port now n : ℕ) (b : Clock) (s u : Store) (t after last : Table ServerCircuit) (h : Handle) (c : EndCause) (did : CoreStep) → StepsIn port t h s (Some (step.Breaks c)) after u → Reports after h did last → IsSound (records_of s) t → Steps (server_of port s now t b n) h (stepped did) (server_of port u now last b n)
 steps-broke port now n b s u t after last h c did (inr none) r i = not-some (step.Breaks c) none.1
 steps-broke port now n b s u t after last h c did (inl g) r i = by g.0 g.1 g.2 g.3 g.4
   where
-    by : (x new : ServerCircuit) → under t h ≡ Some x → CircuitSteps port h x s (Some (step.Breaks c)) new u → after ≡ with_changed (λ (z : ServerCircuit). new) h t → Makes (server_of port s now t b n) h (stepped did) (server_of port u now last b n)
+    by : (x new : ServerCircuit) → under t h ≡ Some x → CircuitSteps port h x s (Some (step.Breaks c)) new u → after ≡ with_changed (λ (z : ServerCircuit). new) h t → Steps (server_of port s now t b n) h (stepped did) (server_of port u now last b n)
     by (Open e) new there broke changed =
         let gone : last ≡ with_freed h t = r.1 ∙ ap (λ (z : Table ServerCircuit). with_freed h z) changed ∙ freed-changed t h (Open e) new there in
         let now_ended = became t after h new (Ended (why_is c) e.link.output) changed broke.1 in
@@ -335,8 +312,8 @@ steps-broke port now n b s u t after last h c did (inl g) r i = by g.0 g.1 g.2 g
         let report : stepped did ≡ steps.Closed (why_is c) e.link.output = report-at after h (Ended (why_is c) e.link.output) (stepped did) found r.0 in
         let whole = closed-is port now n b s u t last h broke.2 gone in
         let closes = breaks-steps port now n b s t h e c (server_of port u now last b n) (i.ends h e there) broke.0 whole in
-        subst (λ (z : Stepped). Makes (server_of port s now t b n) h z (server_of port u now last b n)) (sym report)
-        (step-at port now n b (server_of port s now t b n) h (Open e) (steps.Closed (why_is c) e.link.output) (server_of port u now last b n) there closes.0 closes.1)
+        subst (λ (z : Stepped). Steps (server_of port s now t b n) h z (server_of port u now last b n)) (sym report)
+        (step-at port now n b (server_of port s now t b n) h (Open e) (steps.Closed (why_is c) e.link.output) (server_of port u now last b n) there closes)
     by (Ended w left) new there broke changed = not-some (step.Breaks c) broke.0
 
 -- ---- an end that had ended is reported
@@ -355,15 +332,15 @@ none-sound port s u t after last h did (inl g) r i = by g.0 g.1 g.2 g.3 g.4
         subst (λ (z : Table ServerCircuit). IsSound (records_of u) z) (sym gone)
         (subst (λ (z : Store). IsSound (records_of z) (with_freed h t)) (sym was.2) (subst (λ (rs : List Record). IsSound rs (with_freed h t)) clear (sound-freed (records_of s) t h i)))
 
-pub steps-none : (port now n : ℕ) (b : Clock) (s u : Store) (t after last : Table ServerCircuit) (h : Handle) (did : CoreStep) → StepsIn port t h s None after u → Reports after h did last → IsSound (records_of s) t → Makes (server_of port s now t b n) h (stepped did) (server_of port u now last b n)
+pub steps-none : (port now n : ℕ) (b : Clock) (s u : Store) (t after last : Table ServerCircuit) (h : Handle) (did : CoreStep) → StepsIn port t h s None after u → Reports after h did last → IsSound (records_of s) t → Steps (server_of port s now t b n) h (stepped did) (server_of port u now last b n)
 steps-none port now n b s u t after last h did (inr none) r i =
     let gone : last ≡ t = r.1 ∙ ap (λ (z : Table ServerCircuit). with_freed h z) none.2 ∙ freed-nothing t h none.0 in
     let report : stepped did ≡ steps.Closed why.Cut [] = subst (λ (o : Option ServerCircuit). IsReport o (stepped did)) (ap (λ (z : Table ServerCircuit). under z h) none.2 ∙ none.0) r.0 in
-    subst (λ (o : Option ServerCircuit). StepsAt (server_of port s now t b n) h o (stepped did) (server_of port u now last b n) × ClosesAt (server_of port s now t b n) h o (stepped did) (server_of port u now last b n)) (sym none.0)
-    ((report, same-server port now n b s u t last none.3 gone), tt)
+    subst (λ (o : Option ServerCircuit). StepsAt (server_of port s now t b n) h o (stepped did) (server_of port u now last b n)) (sym none.0)
+    (report, same-server port now n b s u t last none.3 gone)
 steps-none port now n b s u t after last h did (inl g) r i = by g.0 g.1 g.2 g.3 g.4
   where
-    by : (x new : ServerCircuit) → under t h ≡ Some x → CircuitSteps port h x s None new u → after ≡ with_changed (λ (z : ServerCircuit). new) h t → Makes (server_of port s now t b n) h (stepped did) (server_of port u now last b n)
+    by : (x new : ServerCircuit) → under t h ≡ Some x → CircuitSteps port h x s None new u → after ≡ with_changed (λ (z : ServerCircuit). new) h t → Steps (server_of port s now t b n) h (stepped did) (server_of port u now last b n)
     by (Open e) new there was changed = absurd was
     by (Ended w left) new there was changed =
         let stays = stayed t after h new (Ended w left) there changed was.1 in
@@ -377,33 +354,20 @@ steps-none port now n b s u t after last h did (inl g) r i = by g.0 g.1 g.2 g.3 
           places = subst (λ (z : Store). KeepsPlaces s z) (sym was.2) (keeps-same s);
         } in
         step-at port now n b (server_of port s now t b n) h (Ended w left) (stepped did) (server_of port u now last b n) there
-        (report-at after h (Ended w left) (stepped did) found r.0, closed-is port now n b s u t last h w_all gone) tt
+        (report-at after h (Ended w left) (stepped did) found r.0, closed-is port now n b s u t last h w_all gone)
 
 -- ---- the same along the view of the fields
 
-pub made-idle : (y : Server) (port now n : ℕ) (b : Clock) (s u : Store) (t after : Table ServerCircuit) (h : Handle) → server_of port s now t b n ≡ y → StepsIn port t h s (Some step.NeedBytes) after u → Makes y h steps.NeedBytes (server_of port u now after b n)
-made-idle y port now n b s u t after h is did = subst (λ (x : Server). Makes x h steps.NeedBytes (server_of port u now after b n)) is (steps-idle port now n b s u t after h did)
-
-pub made-full : (y : Server) (port now n : ℕ) (b : Clock) (s u : Store) (t after : Table ServerCircuit) (h : Handle) → server_of port s now t b n ≡ y → StepsIn port t h s (Some step.OutputFull) after u → Makes y h steps.OutputFull (server_of port u now after b n)
-made-full y port now n b s u t after h is did = subst (λ (x : Server). Makes x h steps.OutputFull (server_of port u now after b n)) is (steps-full port now n b s u t after h did)
-
-pub made-broke : (y : Server) (port now n : ℕ) (b : Clock) (s u : Store) (t after last : Table ServerCircuit) (h : Handle) (c : EndCause) (did : CoreStep) → server_of port s now t b n ≡ y → StepsIn port t h s (Some (step.Breaks c)) after u → Reports after h did last → IsSound (records_of s) t → Makes y h (stepped did) (server_of port u now last b n)
-made-broke y port now n b s u t after last h c did is g r i =
-    subst (λ (x : Server). Makes x h (stepped did) (server_of port u now last b n)) is (steps-broke port now n b s u t after last h c did g r i)
-
-pub made-none : (y : Server) (port now n : ℕ) (b : Clock) (s u : Store) (t after last : Table ServerCircuit) (h : Handle) (did : CoreStep) → server_of port s now t b n ≡ y → StepsIn port t h s None after u → Reports after h did last → IsSound (records_of s) t → Makes y h (stepped did) (server_of port u now last b n)
-made-none y port now n b s u t after last h did is g r i =
-    subst (λ (x : Server). Makes x h (stepped did) (server_of port u now last b n)) is (steps-none port now n b s u t after last h did g r i)
-
--- what the statement says of it
 pub viewed-idle : (y : Server) (port now n : ℕ) (b : Clock) (s u : Store) (t after : Table ServerCircuit) (h : Handle) → server_of port s now t b n ≡ y → StepsIn port t h s (Some step.NeedBytes) after u → Steps y h steps.NeedBytes (server_of port u now after b n)
-viewed-idle y port now n b s u t after h is did = (made-idle y port now n b s u t after h is did).0
+viewed-idle y port now n b s u t after h is did = subst (λ (x : Server). Steps x h steps.NeedBytes (server_of port u now after b n)) is (steps-idle port now n b s u t after h did)
 
 pub viewed-full : (y : Server) (port now n : ℕ) (b : Clock) (s u : Store) (t after : Table ServerCircuit) (h : Handle) → server_of port s now t b n ≡ y → StepsIn port t h s (Some step.OutputFull) after u → Steps y h steps.OutputFull (server_of port u now after b n)
-viewed-full y port now n b s u t after h is did = (made-full y port now n b s u t after h is did).0
+viewed-full y port now n b s u t after h is did = subst (λ (x : Server). Steps x h steps.OutputFull (server_of port u now after b n)) is (steps-full port now n b s u t after h did)
 
 pub viewed-broke : (y : Server) (port now n : ℕ) (b : Clock) (s u : Store) (t after last : Table ServerCircuit) (h : Handle) (c : EndCause) (did : CoreStep) → server_of port s now t b n ≡ y → StepsIn port t h s (Some (step.Breaks c)) after u → Reports after h did last → IsSound (records_of s) t → Steps y h (stepped did) (server_of port u now last b n)
-viewed-broke y port now n b s u t after last h c did is g r i = (made-broke y port now n b s u t after last h c did is g r i).0
+viewed-broke y port now n b s u t after last h c did is g r i =
+    subst (λ (x : Server). Steps x h (stepped did) (server_of port u now last b n)) is (steps-broke port now n b s u t after last h c did g r i)
 
 pub viewed-none : (y : Server) (port now n : ℕ) (b : Clock) (s u : Store) (t after last : Table ServerCircuit) (h : Handle) (did : CoreStep) → server_of port s now t b n ≡ y → StepsIn port t h s None after u → Reports after h did last → IsSound (records_of s) t → Steps y h (stepped did) (server_of port u now last b n)
-viewed-none y port now n b s u t after last h did is g r i = (made-none y port now n b s u t after last h did is g r i).0
+viewed-none y port now n b s u t after last h did is g r i =
+    subst (λ (x : Server). Steps x h (stepped did) (server_of port u now last b n)) is (steps-none port now n b s u t after last h did g r i)

@@ -11,7 +11,7 @@ use Rattle.ca_text.specs.Place.{At}
 use Rattle.ca_model.specs.Server.{Ended, Open, Server, ServerCircuit, Subscription, concerns}
 use Rattle.ca_model.specs.Server.{key_of}
 use Rattle.ca_model.specs.ServerSteps.{without_puts_of}
-use Rattle.ca_server_circuit.specs.Concerned.{channels_on}
+use Rattle.ca_server_circuit.specs.Concerned.{SizesOn, channels_on}
 
 -- the end of a circuit has ended in a call that did not report it
 abbrev pub is_over : Option ServerCircuit → Bool
@@ -40,6 +40,12 @@ ConcernsUnder name mask place (Some (Open e)) None =
     (s : Subscription) → At e.subscriptions place s → concerns name mask s ≡ false
 ConcernsUnder name mask place (Some (Ended w left)) queue = queue ≡ None
 ConcernsUnder name mask place None queue = queue ≡ None
+
+-- The update that has this number from the front of the queue at this place of an open end has at
+-- most so many bytes behind its header, whenever it is shown.
+abbrev pub SizesUnder : Option ServerCircuit → (place index : ℕ) → Option ℕ → Type 0
+SizesUnder (Some c) place index size = SizesOn c place index size
+SizesUnder None place index size = Unit {0}
 
 -- the bytes that wait at the end under a handle, or that it left if it has ended
 abbrev pub bytes_under : Option ServerCircuit → List ℕ

@@ -22,7 +22,7 @@ use Rattle.ca_server_core.specs.Counting.{PumpsCounting}
 use Rattle.ca_server_core.specs.Effects.{action_of}
 use Rattle.ca_server_core.specs.Finishing.{RepliesIn, effect_after}
 use Rattle.ca_server_core.specs.Following.{Follows}
-use Rattle.ca_server_core.specs.Serving.{Closes, more_applied}
+use Rattle.ca_server_core.specs.Serving.{more_applied}
 
 -- ---- what is noted
 
@@ -131,4 +131,4 @@ pub record HandlesAndFinishes (old : Server) (h : Handle) (new : Server) : Type 
 abbrev pub ServesAndPumps : Server → Handle → Stepped → (waiting : ℕ) → Server → Type 0
 ServesAndPumps old h Handled waiting new =
     (finished : Server) × HandlesAndFinishes old h finished × PumpsCounting finished h waiting new
-ServesAndPumps old h did waiting new = Steps old h did new × Closes old h did new
+ServesAndPumps old h did waiting new = Steps old h did new

@@ -6,9 +6,9 @@ use Rattle.ca_ids.specs.Table.{Table, under, with_changed, with_freed}
 use Rattle.ca_records.specs.Store.{Store}
 use Rattle.ca_text.specs.Limits.{applied_limit}
 use Rattle.ca_model.specs.Ends as why
-use Rattle.ca_model.specs.Server.{Server, ServerCircuit, ServerEnd}
+use Rattle.ca_model.specs.Server.{ServerCircuit}
 use Rattle.ca_model.specs.Server as server
-use Rattle.ca_model.specs.ServerSteps.{LacksMemory, Stepped}
+use Rattle.ca_model.specs.ServerSteps.{Stepped}
 use Rattle.ca_model.specs.ServerSteps as steps
 use Rattle.ca_server_circuit.specs.declared.step.FollowUp.{FollowUp}
 use Rattle.ca_server_circuit.specs.declared.step.FollowUp.TheVariants as effect
@@ -17,7 +17,6 @@ use Rattle.ca_server_circuit.specs.declared.step.EndStep.TheVariants as step
 use Rattle.ca_server_core.specs.declared.stepping.CoreStep.{CoreStep}
 use Rattle.ca_server_core.specs.declared.stepping.CoreStep.TheVariants.{Closed, Handled, NeedBytes}
 use Rattle.ca_server_core.specs.declared.stepping.CoreStep.TheVariants.{OutputFull}
-use Rattle.ca_server_circuit.specs.Handling.{AsksMemory}
 use Rattle.ca_server_circuit.specs.Serving.{CircuitSteps}
 use Rattle.ca_server_circuit.specs.Stepping.{why_is}
 
@@ -64,26 +63,3 @@ IsReport (Some (server.Open e)) did = Unit {0}
 -- the circuit of a handle was taken out, and its end is reported
 abbrev pub Reports : Table ServerCircuit → Handle → CoreStep → Table ServerCircuit → Type 0
 Reports t h did after = IsReport (under t h) (stepped did) × (after ≡ with_freed h t)
-
--- ---- when a step closes an end
-
--- An end closes out of memory in a step for the next message, which asks for some: nothing
--- is left of that; or its write is applied, and the end is one of those that lacked memory
--- for an update of it.
-pub record LacksItself (y : Server) (h : Handle) (e : ServerEnd) (new : Server) : Type 0 where
-  pub lacks : LacksMemory y h e new
-  pub asks : AsksMemory lacks.next.m lacks.next.replies lacks.next.action
-  pub itself : (gone : Handle → Bool) → lacks.written ≡ Some gone → gone h ≡ true
-
-abbrev pub ClosesOpen : Server → Handle → ServerEnd → Stepped → Server → Type 0
-ClosesOpen old h e (steps.Closed why.OutOfMemory left) new = LacksItself old h e new
-ClosesOpen old h e did new = Unit {0}
-
-abbrev pub ClosesAt : Server → Handle → Option ServerCircuit → Stepped → Server → Type 0
-ClosesAt old h (Some (server.Open e)) did new = ClosesOpen old h e did new
-ClosesAt old h (Some (server.Ended w left)) did new = Unit {0}
-ClosesAt old h None did new = Unit {0}
-
--- if a step closes an open end out of memory, that lacks for its own message
-abbrev pub Closes : Server → Handle → Stepped → Server → Type 0
-Closes old h did new = ClosesAt old h (under old.circuits h) did new

@@ -6,8 +6,8 @@ ghost use Rattle.ca_records.specs.Puts.{record_named, withdrawn};
 ghost use Rattle.ca_records.specs.Store.{records_of};
 ghost use Rattle.ca_server_circuit.specs.Circuits.{is_open};
 ghost use Rattle.ca_server_core.specs.ForHistories.{ComesBefore, ConcernsUnder, EndsAt, IsOverAt};
-ghost use Rattle.ca_server_core.specs.ForHistories.{bytes_under, channels_under, is_over, put_in};
-ghost use Rattle.ca_server_core.specs.ForHistories.{value_in};
+ghost use Rattle.ca_server_core.specs.ForHistories.{SizesUnder, bytes_under, channels_under};
+ghost use Rattle.ca_server_core.specs.ForHistories.{is_over, put_in, value_in};
 ghost use Rattle.ca_server_core.specs.Sound.{IsSound};
 
 use crate::server::ServerCore;
@@ -87,6 +87,17 @@ pub fn concerned_at(
 {
     match core.circuits.by_handle(circuit) {
         Some(found) => found.concerned_at(place, name, mask),
+        None => None,
+    }
+}
+
+/// How many bytes the update has at most behind its header that has this number from the front of
+/// the queue at this place of a circuit, if its end is open and one waits there.
+pub fn update_size(core: &ServerCore, circuit: Handle, place: usize, index: usize) -> Option<usize>
+    ensures { SizesUnder (under core.now.circuits circuit) place index result }
+{
+    match core.circuits.by_handle(circuit) {
+        Some(found) => found.update_size(place, index),
         None => None,
     }
 }

@@ -6,7 +6,7 @@ ghost use Rattle.ca_records.specs.Store.{records_of};
 ghost use Rattle.ca_server_core.specs.Following.{Settles};
 ghost use Rattle.ca_server_core.specs.Noting.{was_handled};
 ghost use Rattle.ca_server_circuit.specs.Circuits.{is_open};
-ghost use Rattle.ca_server_core.specs.Serving.{Closes, Reports, StepsIn, is_quiet, more_applied};
+ghost use Rattle.ca_server_core.specs.Serving.{Reports, StepsIn, is_quiet, more_applied};
 ghost use Rattle.ca_server_core.specs.Serving.{stepped};
 ghost use Rattle.ca_server_core.specs.Sound.{IsSound};
 ghost use Rattle.ca_server_core.specs.Effects.{TellsEffect};
@@ -50,7 +50,6 @@ impl ServerCore {
     /// handle without a circuit, a step reports a cut.
     pub fn step(&mut self, circuit: Handle) -> CoreStep
         ensures steps { Steps self.old circuit (stepped result) self.new }
-        ensures closes { Closes self.old circuit (stepped result) self.new }
         ensures tells { TellsEffect self.old circuit result self.new }
     {
         let mut waited = 0;

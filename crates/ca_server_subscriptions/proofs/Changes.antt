@@ -1,12 +1,11 @@
 -- What changes the queues of an end while updates wait beside them.
-use Rattle.std.proofs.Common.{◌≡◌, ℕ, zero, suc, ◌<◌, ◌≤◌, ◌+◌, ◌||◌, inl, inr, Bool, true, false, not, cond, List, [], ◌∷◌, ◌++◌, length, filter, map, nat_lt, Option, Some, None, refl, sym, ap, ◌∙◌, subst, arith}
-use Rattle.std.specs.List.{fold, list_any}
+use Rattle.std.proofs.Common.{◌≡◌, ℕ, ◌≤◌, ◌+◌, ◌||◌, inl, inr, Bool, true, false, not, List, [], ◌∷◌, ◌++◌, length, filter, map, nat_lt, Option, Some, None, refl, sym, ap, ◌∙◌, subst, arith}
+use Rattle.std.specs.List.{list_any}
 use Rattle.std.specs.Map.{lookup}
 use Rattle.std.proofs.lemmas.Bool.{both_ways, cases_Bool, ltb-true, or_parts}
-use Rattle.ca_text.specs.Place.{At}
 use Rattle.ca_text.proofs.Places.{At-map, At-mapped}
 use Rattle.ca_queue.specs.declared.entry.SubKey.{SubKey}
-use Rattle.ca_queue.specs.Circuit.{HasAt, RestBefore, Takes, queue_posted, queue_without, without_each}
+use Rattle.ca_queue.specs.Circuit.{HasAt, RestBefore, Takes, queue_without, without_each}
 use Rattle.ca_queue.specs.Keys.{AreApart, is_among, same}
 use Rattle.ca_queue.specs.Queue.{Queue, cancelled, switched}
 use Rattle.ca_queue.specs.Waiting.{count_of, is_crowded, is_of, taken}
@@ -22,7 +21,7 @@ use Rattle.ca_server_subscriptions.proofs.Sieves.{without-none, without-one}
 use Rattle.ca_server_subscriptions.specs.Pumping.{GivesUpdate}
 use Rattle.ca_server_subscriptions.specs.Subscribed.{ArePlaced, Standings, Subscribed, subscriptions_in}
 use Rattle.ca_server_subscriptions.specs.declared.waiting.Addressee.{Addressee}
-use Rattle.ca_server_subscriptions.specs.Owing.{AreEmpty, AreInOrder, AreSwitched, HasOnly, IsOwing, LosesNext, keys_of, with_owed}
+use Rattle.ca_server_subscriptions.specs.Owing.{AreEmpty, AreInOrder, IsOwing, LosesNext, keys_of, with_owed}
 
 -- all but one
 abbrev others_of : SubKey → List Addressee → List Addressee

@@ -10,3 +10,4 @@ pub mod Lines
 pub mod Channels
 pub mod Posts
 pub mod Passing
+mod Waits

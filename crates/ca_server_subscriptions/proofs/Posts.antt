@@ -1,14 +1,13 @@
 -- A post to subscriptions on a record, beside the queues or in them.
-use Rattle.std.proofs.Common.{◌≡◌, ℕ, zero, suc, ◌<◌, ◌≤◌, ◌+◌, ◌-◌, ◌||◌, inl, inr, Bool, true, false, not, cond, List, [], ◌∷◌, ◌++◌, length, drop, filter, map, refl, sym, ap, ◌∙◌, subst, arith}
+use Rattle.std.proofs.Common.{◌≡◌, ℕ, zero, suc, ◌≤◌, ◌+◌, inl, inr, Bool, true, false, cond, List, [], ◌∷◌, ◌++◌, length, drop, filter, map, refl, sym, ap, ◌∙◌, subst, arith}
 use Rattle.std.specs.List.{fold, list_any}
-use Rattle.std.proofs.lemmas.Bool.{cases_Bool, or_parts}
+use Rattle.std.proofs.lemmas.Bool.{or_parts}
 use Rattle.std.proofs.lemmas.List.{append-nil, drop_all}
 use Rattle.ca_text.specs.Place.{At}
-use Rattle.ca_text.proofs.Places.{At-append, At-last, At-map, At-mapped, At-snoc, some_is}
+use Rattle.ca_text.proofs.Places.{At-append, At-last, At-mapped, At-snoc, some_is}
 use Rattle.ca_queue.specs.declared.entry.SubKey.{SubKey}
-use Rattle.ca_queue.specs.Circuit.{AreInOne, HasAt, queue_posted}
+use Rattle.ca_queue.specs.Circuit.{HasAt, queue_posted}
 use Rattle.ca_queue.specs.Keys.{AreApart}
-use Rattle.ca_queue.specs.Queue.{Queue}
 use Rattle.ca_model.specs.Speech.{Stored}
 use Rattle.ca_server_subscriptions.proofs.Dropping.{filtered-later}
 use Rattle.ca_server_subscriptions.proofs.Owing.{apart-some, has-posted, map-both, order-some}
@@ -17,7 +16,7 @@ use Rattle.ca_server_subscriptions.proofs.Receivers.{drop-at, receiver-has}
 use Rattle.ca_server_subscriptions.specs.ByRecord.{ArePlacedIn, Receiver, is_masked, receiver_of, receivers_of}
 use Rattle.ca_server_subscriptions.specs.Subscribed.{ArePlaced, Standings, is_on, keys_in}
 use Rattle.ca_server_subscriptions.specs.declared.waiting.Addressee.{Addressee}
-use Rattle.ca_server_subscriptions.specs.Owing.{AreCopies, AreEmpty, AreInOrder, AreSwitched, HasOnly, IsOwing, addressee_of, keys_of, with_owed}
+use Rattle.ca_server_subscriptions.specs.Owing.{AreCopies, AreEmpty, AreInOrder, AreSwitched, HasOnly, IsOwing, addressee_of, with_owed}
 
 -- a post to nobody
 pub nobody : (mask : ℕ) (rs : List Receiver) → list_any (is_masked mask) rs ≡ false → filter (is_masked mask) rs ≡ []

@@ -1,6 +1,6 @@
 -- Working: updates that wait beside the queues of an end.
-use Rattle.std.specs.Prelude.{ℕ, ◌≡◌, ◌≤◌, Bool, true, List, [], ◌∷◌, Option, Some, None, Result}
-use Rattle.std.specs.Prelude.{Ok, Err, length, map}
+use Rattle.std.specs.Prelude.{ℕ, ◌≡◌, ◌≤◌, ◌==◌, Bool, true, List, [], ◌∷◌, Option, Some}
+use Rattle.std.specs.Prelude.{Result, Err, filter, length, map}
 use Rattle.std.specs.List.{fold}
 use Rattle.ca_text.specs.Place.{At}
 use Rattle.ca_text.specs.declared.refusal.Refusal.{Refusal}
@@ -18,6 +18,10 @@ addressee_of r = record { queue = r.queue; key = r.key }
 
 abbrev pub keys_of : List Addressee → List SubKey
 keys_of owed = map (λ (a : Addressee). a.key) owed
+
+-- those of them in the queue at this place
+abbrev pub those_in : (place : ℕ) → List Addressee → List Addressee
+those_in place owed = filter (λ (a : Addressee). a.queue == place) owed
 
 -- n of this, and no other
 abbrev pub AreCopies : {A : Type 0} → ℕ → A → List A → Type 0

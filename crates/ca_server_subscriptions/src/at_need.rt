@@ -14,7 +14,7 @@ ghost use Rattle.ca_wire.specs.declared.requests.Wanted.{Wanted};
 ghost use Rattle.ca_server_subscriptions.specs.AtNeed.{subscribed_of};
 ghost use Rattle.ca_server_subscriptions.specs.Concerned.{ConcernsAt};
 ghost use Rattle.ca_server_subscriptions.specs.Passing.{PassesBy};
-ghost use Rattle.ca_server_subscriptions.specs.Pumping.{GivesUpdate, MayGive};
+ghost use Rattle.ca_server_subscriptions.specs.Pumping.{GivesAt, GivesUpdate, MayGive};
 ghost use Rattle.ca_server_subscriptions.specs.Subscribed.{AreKnown, HasRoom, IsAskable, Joins};
 ghost use Rattle.ca_server_subscriptions.specs.Subscribed.{after_post, has_key, is_of_sid, is_on};
 ghost use Rattle.ca_server_subscriptions.specs.Subscribed.{none_yet, without_those};
@@ -189,6 +189,18 @@ impl SubscriptionsAtNeed {
     {
         match &self.kept {
             Some(subscriptions) => subscriptions.concerned_at(place, name, mask),
+            None => None,
+        }
+    }
+
+    /// The update that has this number from the front of the queue at this place, if one waits
+    /// there, and what its subscription asked for. Only a recorder of histories needs it.
+    pub fn update_at(&self, place: usize, index: usize) -> Option<(Wanted, &Update)>
+        ensures gives { GivesAt self.now place index (option_map (λ r. (r.0, r.1.now)) result) }
+        ensures askable { IfSome result (λ r. IsAskable r.0) }
+    {
+        match &self.kept {
+            Some(subscriptions) => subscriptions.update_at(place, index),
             None => None,
         }
     }

@@ -14,7 +14,7 @@ ghost use Rattle.ca_queue.specs.Circuit.{RestBefore, queue_posted};
 ghost use Rattle.ca_model.specs.Speech.{Stored};
 ghost use Rattle.ca_wire.specs.declared.requests.Wanted.{Wanted};
 ghost use Rattle.ca_server_subscriptions.specs.ByRecord.{IsOnlyOn, IsOnlyOne, receivers_of};
-ghost use Rattle.ca_server_subscriptions.specs.Pumping.{GivesUpdate, MayGive};
+ghost use Rattle.ca_server_subscriptions.specs.Pumping.{GivesAt, GivesUpdate, MayGive};
 ghost use Rattle.ca_server_subscriptions.specs.Owing.{AreEmpty, AreOn};
 ghost use Rattle.ca_server_subscriptions.specs.Passing.{PassesBy};
 ghost use Rattle.ca_server_subscriptions.specs.Subscribed.{AreKnown, ArePlaced, HasRoom, IsAskable};
@@ -282,6 +282,17 @@ impl Subscriptions {
             return None;
         }
         Some(standing.queue())
+    }
+
+    /// The update that has this number from the front of the queue at this place, if one waits
+    /// there, and what its subscription asked for. Only a recorder of histories needs it.
+    pub fn update_at(&self, place: usize, index: usize) -> Option<(Wanted, &Update)>
+        ensures gives { GivesAt self.now place index (option_map (λ r. (r.0, r.1.now)) result) }
+        ensures askable { IfSome result (λ r. IsAskable r.0) }
+    {
+        let (key, update) = self.queues.entry(place, index)?;
+        let standing = self.standing.get(&key)?;
+        Some((standing.wanted(), update))
     }
 
     /// Tells if nothing waits and events are on, so that no update may be taken.

@@ -1,13 +1,13 @@
 //! The updates that wait on a circuit: eight queues, and one update in front of them that is stored
 //! once for all subscriptions it is for. Begin at `post` and `take`.
 ghost use Rattle.std.specs.Prelude.{ℕ, ◌≡◌, ◌≤◌, [], IfOk, IfSome, OnErr, OnOk, true, not, filter};
-ghost use Rattle.std.specs.Prelude.{if◌then◌else◌, length, map, replicate};
+ghost use Rattle.std.specs.Prelude.{if◌then◌else◌, length, map, option_map, replicate, slice_get};
 ghost use Rattle.std.specs.List.{fold, list_any};
 ghost use Rattle.ca_text.specs.Limits.{circuit_queues, element_limit};
 ghost use Rattle.ca_text.specs.Place.{At};
 ghost use Rattle.ca_dbr.specs.Elements.{count_of, elements};
 ghost use Rattle.ca_queue.specs.Circuit.{HasAt, HasNone, RestBefore, Takes, queue_posted};
-ghost use Rattle.ca_queue.specs.Circuit.{without_each};
+ghost use Rattle.ca_queue.specs.Circuit.{entry_in, without_each};
 ghost use Rattle.ca_queue.specs.Keys.{same};
 ghost use Rattle.ca_queue.specs.Queue.{no_queue, switched};
 ghost use Rattle.ca_queue.specs.declared.entry.SubKey.{SubKey};
@@ -17,7 +17,7 @@ ghost use Rattle.ca_server_subscriptions.specs.Subscribed.{ArePlaced, Standings}
 ghost use Rattle.ca_server_subscriptions.specs.declared.waiting.Addressee.{Addressee};
 ghost use Rattle.ca_server_subscriptions.specs.Owing.{AreCopies, AreEmpty, AreInOrder, AreOn};
 ghost use Rattle.ca_server_subscriptions.specs.Owing.{IsNext, LosesNext, MayBegin, addressee_of};
-ghost use Rattle.ca_server_subscriptions.specs.Owing.{with_owed};
+ghost use Rattle.ca_server_subscriptions.specs.Owing.{keys_of, those_in, with_owed};
 
 use crate::receiver::Receiver;
 use crate::update::Update;
@@ -238,6 +238,18 @@ impl Waiting {
         Ok(Some(taken))
     }
 
+    // The update that has this number from the front of the queue at this place, with its
+    // subscription: None if there is none.
+    pub(crate) fn entry(&self, place: usize, index: usize) -> Option<(SubKey, &Update)>
+        ensures { option_map (λ w. (w.0, w.1.now)) result ≡ entry_in self.now place index }
+    {
+        if self.owed.is_empty() {
+            return self.queues.entry(place, index);
+        }
+        let key = owed_in(&self.owed, place, index)?;
+        Some((key, &self.update))
+    }
+
     // An update that was shown gives its memory to the next one.
     pub(crate) fn recycle(&mut self, update: Update)
         ensures { self.new ≡ self.old }
@@ -323,6 +335,25 @@ fn owe(
         }
     }
     Ok(())
+}
+
+// Of those whom the update beside the queues is for, the one that has this number among those in
+// the queue at this place: None if they are fewer.
+fn owed_in(owed: &VecDeque<Addressee, Global>, place: usize, index: usize) -> Option<SubKey>
+    ensures { result ≡ slice_get (keys_of (those_in place owed.now.items)) index }
+{
+    let mut before = index;
+    for i in 0..owed.len() {
+        let addressee = owed[i];
+        if addressee.queue != place {
+            continue;
+        }
+        if before == 0 {
+            return Some(addressee.key);
+        }
+        before -= 1;
+    }
+    None
 }
 
 // The update beside the queues is not for this subscription.

@@ -32,7 +32,6 @@ pub mod Additions
 pub mod ClientHearings
 pub mod Removings
 pub mod Seating
-pub mod ServerSteppings
 pub mod EndsClosed
 pub mod StepFacts
 pub mod StepHandled

@@ -1,5 +1,5 @@
 -- A server's end of a circuit is pumped, from what its parts became.
-use Rattle.std.proofs.Common.{◌≡◌, ℕ, zero, suc, ◌==◌, inl, inr, true, false, List, [], ◌∷◌, Some, None, Result, Ok, Err, length, refl, sym, ap, subst, ◌∙◌}
+use Rattle.std.proofs.Common.{◌≡◌, ◌≢◌, ◌⊎◌, ℕ, zero, suc, ◌==◌, inl, inr, true, false, List, [], ◌∷◌, Some, None, Result, Ok, Err, length, refl, sym, ap, subst, ◌∙◌}
 use Rattle.std.specs.Prelude.{map, slice_set}
 use Rattle.std.specs.List.{FoldsTo}
 use Rattle.ca_arena.specs.declared.handle.Handle.{Handle}
@@ -9,7 +9,9 @@ use Rattle.ca_text.specs.Place.{At}
 use Rattle.ca_text.proofs.Places.{At-map, At-one, At-set}
 use Rattle.ca_wire.specs.Fields.{Fields}
 use Rattle.ca_model.specs.Ends as why
-use Rattle.ca_model.specs.History.{Entry, Line}
+use Rattle.ca_queue.specs.Queue.{Queue}
+use Rattle.ca_model.specs.History.{Cause, Entry, Line}
+use Rattle.ca_model.specs.Speech.{Stored}
 use Rattle.ca_model.specs.Server.{Server, ServerEnd}
 use Rattle.ca_model.specs.ServerSteps.{HasEnd, Update, ended, with_end}
 use Rattle.ca_model.specs.Events.{Pump}
@@ -21,23 +23,24 @@ use Rattle.ca_laws_parts.proofs.BytesRuns.{reached-in-step}
 use Rattle.ca_laws_parts.proofs.ServerEvents.{stamped-tells}
 use Rattle.ca_laws_parts.proofs.BytesServerCalls.{pumps-fits}
 use Rattle.ca_laws_parts.specs.ServerFits.{ServersFit}
-use Rattle.ca_laws_parts.specs.InStep.{InStep}
+use Rattle.ca_laws_parts.specs.InStep.{InStep, number_in, value_in}
 use Rattle.ca_laws_parts.specs.Seats.{Seated}
 use Rattle.ca_laws_parts.specs.WritesSteps.{AllInStep}
 use Rattle.ca_world_data.specs.declared.client.ClientSide.{ClientSide}
 use Rattle.ca_world_data.specs.declared.ends.Ends.{Ends}
 use Rattle.ca_world_data.specs.declared.joined.Joined.{Joined}
 use Rattle.ca_world_data.specs.declared.server.ServerSide.{ServerSide}
-use Rattle.ca_world_data.specs.Does.{Does}
+use Rattle.ca_world_data.specs.Does.{Does, HasWaiting, MayPump}
 use Rattle.ca_world_data.specs.Ends.{AreEnds, NoEnds, ends_of}
 use Rattle.ca_world_data.specs.Seen.{client_of, joined_of, record_of, server_of}
-use Rattle.ca_world_data.specs.Updates.{TellsOne}
+use Rattle.ca_world_data.specs.Updates.{TellsOne, WaitAlike, WaitsAlike, bare, shown_by}
 use Rattle.ca_world_data.specs.Withdrawing.{all_withdrawn}
-use Rattle.ca_world.specs.ServerPumps.{Pumped, PumpsServer, PumpsUntil, UpdatesFit, over_core, shown_by}
+use Rattle.ca_world.specs.ServerPumps.{Pumped, PumpsServer, PumpsUntil, UpdatesFit, over_core}
 use Rattle.ca_world.specs.Reported.{HasReported}
 use Rattle.ca_world.specs.Whole.{IsReached}
 use Rattle.ca_world_data.proofs.Indexes.{KeepsEnds, ends-stay}
 use Rattle.ca_world_data.proofs.Withdrawals.{told-all}
+use Rattle.ca_world_data.proofs.UpdatesGiven.{bare-images}
 use Rattle.ca_world_data.proofs.Worlds.{joins, none-joined, one-at, same-circuit, set-map, set-same, world_of}
 use Rattle.ca_world.proofs.Cuttings.{run-reported, run-stands}
 use Rattle.ca_world.proofs.Downward.{set-set}
@@ -45,6 +48,14 @@ use Rattle.ca_world.proofs.Endings.{ends-number, ends-this, over-reports}
 use Rattle.ca_world.proofs.Reported.{reported-changed}
 use Rattle.ca_world.proofs.Stamping.{told-stamped}
 use Rattle.ca_world.proofs.Staying.{after-none}
+
+-- ---- entries that wait
+
+-- what is in step waits in both
+in-step-alike : (values : List (Queue Stored)) (numbers : List (Queue (ℕ × Cause))) → InStep values numbers → WaitAlike values numbers
+in-step-alike values numbers s =
+    ap (λ (qs : List (Queue Stored)). bare qs) s.values_are ∙ bare-images value_in s.both
+    ∙ sym (ap (λ (qs : List (Queue (ℕ × Cause))). bare qs) s.numbers_are ∙ bare-images number_in s.both)
 
 -- ---- a circuit whose updates went down
 
@@ -191,12 +202,30 @@ module _ (cs : List ClientSide) (ss : List ServerSide) (ks : List Joined) (cl : 
         set-at-here (y ∷ xs) zero x z at = refl
         set-at-here (y ∷ xs) (suc n) x z at = set-at-here xs n x z at
 
+    -- there was no memory for a put that waits, or for an update that may leave
+    lacks-there : (all_withdrawn k y.records.items ≢ []) ⊎ MayPump y.core (joined_of j) → HasWaiting k (server_of y) ⊎ MayPump y.core (joined_of j)
+    lacks-there (inl some) = inl (λ none. some (sym (told-all k y.records.items) ∙ none))
+    lacks-there (inr may) = inr may
+
+    -- the same entries wait at the end and on the circuit
+    pub waits-there : WaitsAlike y.core (joined_of j)
+    waits-there e has = in-step-alike e.queues (joined_of j).queues (in_step e has)
+
     pub pump-there : (j' : Joined) (y' : ServerSide) (sl' : List (List Entry)) (r : Result (Unit {0}) Refusal) → PumpsServer k y j sl r y' j' sl' → Does w (Pump k) r (world_of cs (slice_set ss j.server y') (slice_set ks k j') cl sl' m)
     pump-there j' y' sl' (Ok u) (same, inl (until, side, logs)) =
         subst (λ (z : List (List Entry)). Happens w (Pump k) (world_of cs (slice_set ss j.server y') (slice_set ks k j') cl z m)) (sym logs) (rest-there j' y' until side)
     pump-there j' y' sl' (Ok u) (same, inr (left, new, until, closes, side, logs)) = over-there j' y' sl' left new until closes side logs
-    pump-there j' y' sl' (Err OutOfMemory) d =
-        ((there, λ none. d.0 (sym (told-all k y.records.items) ∙ none)), (λ t. world_of cs (slice_set ss j.server (d.1 t)) (slice_set ks k (d.2 t)) cl (d.3 t) m) ∙ (λ t. world_of cs (set-same ss j.server y server t) (set-same ks k j at t) cl sl m))
+    pump-there j' y' sl' (Err OutOfMemory) d = (
+      (there, lacks-there d.0),
+      λ t. record {
+        clients = map client_of cs;
+        servers = (ap (λ (z : ServerSide). map server_of (slice_set ss j.server z)) d.1 ∙ ap (map server_of) (set-same ss j.server y server)) t;
+        circuits = (set-map joined_of ks k j' ∙ ap (slice_set (map joined_of ks) k) d.2 ∙ set-same (map joined_of ks) k (joined_of j) at_k) t;
+        client_logs = cl;
+        server_logs = d.3 t;
+        moment = m;
+      },
+    )
     pump-there j' y' sl' (Err _) d = absurd d
 
 -- ---- by the ends that were found
@@ -218,6 +247,14 @@ module _ (cs : List ClientSide) (ss : List ServerSide) (ks : List Joined) (cl : 
       server
       on
 
+  pub pump-alike : (j : Joined) (y : ServerSide) → At ks k j → At ss e.server y → e.server_open ≡ true → IsReached (world_of cs ss ks cl sl m) → WaitsAlike y.core (joined_of j)
+  pump-alike j y at server on reached =
+      let is_j : a.j ≡ j = At-one ks k a.j j a.at at in
+      let is : e ≡ ends_of j = a.is ∙ ap ends_of is_j in
+      let one = one-at cs a.j.client a.client in
+      let client : At cs j.client one.0 = subst (λ (z : Joined). At cs z.client one.0) is_j one.1 in
+      waits-there cs ss ks cl sl m k j one.0 y at client (subst (λ (z : Ends). At ss z.server y) is server) (subst (λ (z : Ends). z.server_open ≡ true) is on) reached
+
   -- what the call asks for
   pub pump-fits : (j : Joined) (y : ServerSide) → At ss e.server y → ServersFit (world_of cs ss ks cl sl m) → UpdatesFit y.core j.at_server
   pump-fits j y server fit us new pumps = (pumps-fits y.core j.at_server us new pumps (fit.cores e.server (server_of y) (At-map server_of ss e.server y server))).0
@@ -232,5 +269,5 @@ pump-keeps k y y' j j' sl sl' (Ok u) (same, inr (left, new, (p, more, left_is, i
       subst (λ (z : model.Joined). KeepsEnds (joined_of j) z) (sym closes)
           (record { client = n.client; server = n.server; at_client = n.at_client; at_server = n.at_server; closes = n.closes; stops = λ on. absurd cc }),
     )
-pump-keeps k y y' j j' sl sl' (Err OutOfMemory) d = (ap (λ (z : ServerSide). z.circuits.items) d.1, ends-stay (joined_of j) (joined_of j') (ap joined_of d.2))
+pump-keeps k y y' j j' sl sl' (Err OutOfMemory) d = (ap (λ (z : ServerSide). z.circuits.items) d.1, ends-stay (joined_of j) (joined_of j') d.2)
 pump-keeps k y y' j j' sl sl' (Err _) d = absurd d

@@ -18,9 +18,8 @@ use Rattle.ca_model.specs.ServerEvents.{front_number, stamped}
 use Rattle.ca_model.specs.World.{Joined}
 use Rattle.ca_laws_parts.specs.InStep.{InStep, Numbered, number_in, value_in}
 use Rattle.ca_laws_parts.proofs.InStep.{step-pumped}
-use Rattle.ca_world_data.specs.Updates.{TellsOne}
+use Rattle.ca_world_data.specs.Updates.{TellsOne, shown_by}
 use Rattle.ca_world_data.proofs.UpdatesTold.{rest-images}
-use Rattle.ca_world.specs.ServerPumps.{shown_by}
 
 -- ---- one take
 

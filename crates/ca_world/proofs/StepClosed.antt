@@ -1,35 +1,27 @@
 -- A step of a server's end, if the end closed in it: what is left, from what is told of it.
-use Rattle.std.proofs.Common.{◌≡◌, ◌≢◌, ℕ, zero, suc, ◌&&◌, inl, inr, Bool, true, false, nat_eq, List, [], ◌∷◌, ◌++◌, Option, Some, None, length, refl, sym, ap, subst, arith, ◌∙◌}
-use Rattle.std.specs.Prelude.{if◌then◌else◌, map, slice_set, take}
+use Rattle.std.proofs.Common.{◌≡◌, ◌≢◌, ℕ, ◌&&◌, inl, inr, Bool, true, false, nat_eq, List, Option, Some, None, length, refl, sym, ap, subst, arith, ◌∙◌}
+use Rattle.std.specs.Prelude.{if◌then◌else◌, map, slice_set}
 use Rattle.std.proofs.lemmas.Bool.{le-ltb}
-use Rattle.std.proofs.lemmas.List.{append-nil}
 use Rattle.ca_arena.specs.declared.handle.Handle.{Handle}
-use Rattle.ca_ids.specs.Table.{same_handle, under, with_freed}
-use Rattle.ca_records.specs.declared.puts.Put.{Put}
+use Rattle.ca_ids.specs.Table.{under, with_freed}
 use Rattle.ca_text.specs.Command.{command_number}
 use Rattle.ca_text.specs.declared.command.Command.TheVariants as command
 use Rattle.ca_text.specs.Place.{At}
-use Rattle.ca_text.proofs.Places.{some_is}
-use Rattle.ca_wire.specs.Message.{spelled}
-use Rattle.ca_model.specs.Due.{Action, Adds, Applies, Clears, Drops, Greets, Names, Nothing, Opens, Switches, Waits}
 use Rattle.ca_model.specs.Ends as why
 use Rattle.ca_model.specs.Ends.{Why}
 use Rattle.ca_model.specs.History.{Entry}
 use Rattle.ca_model.specs.Server.{Ended, Open, Server, ServerCircuit, ServerEnd}
-use Rattle.ca_model.specs.ServerSteps.{HasEnd, LacksMemory, LeftOf, NeedsMemory, Next, StepsOpen, closed, is_write, output_of}
+use Rattle.ca_model.specs.ServerSteps.{HasEnd, LacksMemory, LeftOf, Next, StepsOpen, closed}
 use Rattle.ca_model.specs.ServerSteps as stepped
 use Rattle.ca_model.proofs.Tables.{freed-back}
-use Rattle.ca_model.specs.ServerEvents.{ending, ends_at, ends_here, logged_by, numbers_after, records_after, reported, withdrawals, without_puts, write_numbers}
+use Rattle.ca_model.specs.ServerEvents.{ending, ends_at, ends_here, logged_by, records_after, reported, withdrawals, without_puts, write_numbers}
 use Rattle.ca_model.specs.World.{Joined, PutPlace, RecordSide, ServerSide, grown}
-use Rattle.ca_laws_parts.proofs.ServerEnds.{next-own, reaches-stays}
 use Rattle.ca_server_circuit.specs.Effects.{effect_due}
 use Rattle.ca_server_circuit.specs.declared.effect.Effect.{Effect}
 use Rattle.ca_server_core.specs.Effects.{TellsEffect, action_at, message_at}
 use Rattle.ca_server_core.specs.declared.stepping.CoreStep.TheVariants as step
-use Rattle.ca_server_core.proofs.Servers.{freed-changed}
 use Rattle.ca_world.proofs.EndsClosed.{ends-closed}
-use Rattle.ca_world.proofs.ServerSteppings.{clears-same, closed-same}
-use Rattle.ca_world.proofs.StepFacts.{alike-wrote}
+use Rattle.ca_world.proofs.StepFacts.{alike-wrote, write-same}
 use Rattle.ca_world.proofs.StepNumbers.{gone-agree, quits-here, writes-agree}
 use Rattle.ca_world.specs.ServerStepping.{BreaksAt, LacksAs, LacksAt, Quits, RestsAt, StepsAt, circuits_acted, logs_acted, records_acted}
 use Rattle.ca_world.specs.declared.server_step.SteppingEnd.{SteppingEnd}
@@ -37,80 +29,14 @@ use Rattle.ca_world.specs.StepParts.{ClosesWith, IsHandled, MayStep}
 use Rattle.ca_world_data.specs.declared.server.ServerSide.{ServerSide as Side}
 use Rattle.ca_world_data.specs.Numbering.{AllAlike, IsAlike}
 use Rattle.ca_world_data.specs.Seen.{record_of, server_of}
-use Rattle.ca_world_data.specs.ServerCuts.{cut_core}
+use Rattle.ca_world_data.proofs.Worlds.{set-same}
 use Rattle.ca_world_servers.specs.Effects.{TellsAction, TellsWrite, is_busy_in, wrote_in}
 use Rattle.ca_world_servers.specs.declared.ahead.Ahead.{Ahead}
 use Rattle.ca_world_servers.specs.EndsWith.{ReportsWith, ends_under}
-use Rattle.ca_world_servers.proofs.Dealt.{busies_of, left_written, wrote-lacks}
+use Rattle.ca_world_servers.proofs.Dealt.{left_written, wrote-lacks}
 use Rattle.ca_world_servers.proofs.Done.{WasDone, tells-busies}
 
--- ---- lists and actions
-
-pub set-same : {A : Type 0} (xs : List A) (k : ℕ) (x : A) → At xs k x → slice_set xs k x ≡ xs
-set-same [] k x at = refl
-set-same (z ∷ xs) zero x at = ap (λ (v : _). v ∷ xs) (sym (some_is z x at))
-set-same (z ∷ xs) (suc k) x at = ap (λ (t : List _). z ∷ t) (set-same xs k x at)
-
--- a write leaves the places on its own circuit
-written-still : (place : ℕ) (action : Action) (j : Joined) → is_write action ≡ true → numbers_after place action j ≡ j
-written-still place (Applies name value busies) j is = refl
-written-still place (Waits name value) j is = absurd cc
-written-still place (Clears sid) j is = absurd cc
-written-still place Nothing j is = absurd cc
-written-still place Greets j is = absurd cc
-written-still place (Names p) j is = absurd cc
-written-still place (Opens c) j is = absurd cc
-written-still place (Adds s) j is = absurd cc
-written-still place (Drops key) j is = absurd cc
-written-still place (Switches on) j is = absurd cc
-
--- another action writes nothing
-unwritten-busies : (action : Action) → is_write action ≡ false → busies_of action ≡ None
-unwritten-busies (Applies name value busies) is = absurd cc
-unwritten-busies (Waits name value) is = refl
-unwritten-busies (Clears sid) is = refl
-unwritten-busies Nothing is = refl
-unwritten-busies Greets is = refl
-unwritten-busies (Names p) is = refl
-unwritten-busies (Opens c) is = refl
-unwritten-busies (Adds s) is = refl
-unwritten-busies (Drops key) is = refl
-unwritten-busies (Switches on) is = refl
-
-take-first : {A : Type 0} (xs ys : List A) → take (length xs) (xs ++ ys) ≡ xs
-take-first [] ys = refl
-take-first (x ∷ xs) ys = ap (λ (t : List _). x ∷ t) (take-first xs ys)
-
 -- ---- what is left of the core
-
--- an end that is cut is closed
-pub cut-closed : (core : Server) (h : Handle) (e : ServerEnd) → HasEnd core h e → cut_core h core ≡ closed h core
-cut-closed core h e has =
-    let puts = clears-same h (λ (p : Put). same_handle p.circuit h) (λ p is. is) core.records in
-    let circuits = freed-changed core.circuits h (Open e) (Ended why.Cut (output_of (under core.circuits h))) has in
-    λ t. record core { circuits = circuits t; records = puts t }
-
--- An end lacks memory for a message that it handled, whose write was applied if it is one.
-abbrev LacksAll : (before : Server) (h : Handle) (e : ServerEnd) → Action → Server → Type 0
-LacksAll before h e action new = (l : LacksMemory before h e new) × (busies_of action ≡ left_written l.written l.next.action)
-
--- the end that handled a message and was closed out of memory
-lacks-handled : (before core : Server) (h : Handle) (e : ServerEnd) (did : Effect) → HasEnd before h e → (d : IsHandled before core h e did) → NeedsMemory d.next.m d.next.replies d.next.action → LacksAll before h e d.next.action (closed h core)
-lacks-handled before core h e did has d needs = go (is_write d.next.action) refl
-  where
-    go : (b : Bool) → is_write d.next.action ≡ b → LacksAll before h e d.next.action (closed h core)
-    go true is = (record { next = d.next; needs = needs; written = Some d.gone; mid = core; left_is = (is, d.reaches); leaves = refl }, refl)
-    go false is = (
-      record {
-        next = d.next;
-        needs = needs;
-        written = None;
-        mid = before;
-        left_is = refl;
-        leaves = closed-same h before e _ d.next.m d.next.replies d.next.action d.next.after core d.gone has d.next.handles is d.reaches;
-      },
-      unwritten-busies d.next.action is,
-    )
 
 -- circuits beside a core are beside it once an end of it closed
 alike-closed : (i : ℕ) (mid : Server) (h : Handle) (ks : List Joined) → AllAlike i mid ks → AllAlike i (closed h mid) ks
@@ -144,7 +70,7 @@ module _ (k : ℕ) (j : Joined) (before : Server) (e : ServerEnd) (has : HasEnd 
 
   module _ (next : Next before j.at_server e) (gone : Handle → Bool) (mid : Server) (left_is : LeftOf next (Some gone) mid) (leaves : y.core ≡ closed j.at_server mid) where
     acted-as : map (write_numbers j.server before next.action) ks ≡ circuits_acted k j was next.action ks
-    acted-as = ap (map (write_numbers j.server before next.action)) (sym (ap (slice_set ks k) (written-still (length j.lists.handled) next.action j left_is.0) ∙ set-same ks k j at))
+    acted-as = ap (map (write_numbers j.server before next.action)) (sym (ap (slice_set ks k) (write-same (length j.lists.handled) next.action j left_is.0) ∙ set-same ks k j at))
 
     circuits-as : map (ending (ends y.core)) (map (write_numbers j.server y.core next.action) ks) ≡ map (ending (ends y.core)) (circuits_acted k j was next.action ks)
     circuits-as =
@@ -223,7 +149,7 @@ module _ (before core : Server) (j : Joined) (ks : List Joined) (rs : List Recor
       (λ z. wrote_in core (m.turn.applied z) (ahead.command z) a.write)
       ∙ wrote-lacks before j.at_server m.e m.has m.turn.few l.next l.written l.mid core l.left_is l.leaves a.write ahead.writes
 
-  pub lacks-alike : (wrote : Option Bool) → wrote ≡ left_written l.written l.next.action → (busies : Bool) → wrote ≡ Some busies → AllAlike t.server core ks
+  lacks-alike : (wrote : Option Bool) → wrote ≡ left_written l.written l.next.action → (busies : Bool) → wrote ≡ Some busies → AllAlike t.server core ks
   lacks-alike wrote are busies is = go l.written l.left_is (sym are ∙ is)
     where
       go : (written : Option (Handle → Bool)) → LeftOf l.next written l.mid → left_written written l.next.action ≡ Some busies → AllAlike t.server core ks
@@ -272,7 +198,7 @@ module _ (t : SteppingEnd) (before : Server) (j : Joined) (y : Side) (ks : List 
   begun = record (server_of y) { core = before }
 
   -- out of memory
-  pub closed-lacks : left ≡ m.e.link.output → (l : LacksMemory before j.at_server m.e y.core) → wrote ≡ left_written l.written l.next.action → LacksAt t.circuit j begun ks logs (server_of y') ks' logs'
+  closed-lacks : left ≡ m.e.link.output → (l : LacksMemory before j.at_server m.e y.core) → wrote ≡ left_written l.written l.next.action → LacksAt t.circuit j begun ks logs (server_of y') ks' logs'
   closed-lacks left_is l is =
       lacks-at t.circuit t.server j m.mine before m.e m.has t.at m.turn.here left left_is y ks at logs y' ks' logs' l a (lacks-done before y.core j ks (map record_of y.records.items) a t m l) wrote is closes
 
@@ -324,28 +250,3 @@ rests-at k before j y ks logs e has full steps = inr (inr (inr (go full steps)))
     go : (full : Bool) → StepsOpen before j.at_server e (if full then stepped.OutputFull else stepped.NeedBytes) y.core → RestsAt j (record y { core = before }) ks logs y ks logs
     go true steps = rests true (steps.0, refl) steps.1
     go false steps = rests false (steps.0, steps.1, steps.2, refl) steps.3
-
--- ---- a message that was handled, for which there was no memory then
-
-module _ (before core : Server) (j : Joined) (ks : List Joined) (rs : List RecordSide) (a : Ahead) (t : SteppingEnd) (did : Effect) (m : MayStep t before j ks rs a) (d : IsHandled before core j.at_server m.e did) where
-  -- its end is open still
-  pub handled-open : (f : ServerEnd) × HasEnd core t.at f
-  handled-open =
-      let own = next-own before j.at_server m.e m.has d.next in
-      let on = reaches-stays d.next.action d.gone d.next.after core d.reaches j.at_server d.stays own.0 own.1 in
-      (on.0, subst (λ (h : Handle). HasEnd core h on.0) (sym m.turn.here) on.1)
-
-  -- of what waits there the first was there before
-  pub handled-left : take t.waited (output_of (under core.circuits t.at)) ≡ m.e.link.output
-  handled-left =
-      let own = next-own before j.at_server m.e m.has d.next in
-      let on = reaches-stays d.next.action d.gone d.next.after core d.reaches j.at_server d.stays own.0 own.1 in
-      let all : output_of (under core.circuits j.at_server) ≡ m.e.link.output ++ spelled d.next.replies = ap output_of on.1 ∙ on.3 ∙ append-nil own.0.link.output ∙ own.3 in
-      (λ z. take (m.turn.waited z) (output_of (under core.circuits (m.turn.here z)))) ∙ ap (take (length m.e.link.output)) all ∙ take-first m.e.link.output (spelled d.next.replies)
-
-  -- once that is cut, it lacks memory
-  pub handled-lacks : (new : Server) → new ≡ cut_core t.at core → NeedsMemory d.next.m d.next.replies d.next.action → LacksAll before j.at_server m.e d.next.action new
-  handled-lacks new is needs =
-      let shut : new ≡ closed j.at_server core =
-      is ∙ cut-closed core t.at handled-open.0 handled-open.1 ∙ ap (λ (h : Handle). closed h core) m.turn.here in
-      subst (LacksAll before j.at_server m.e d.next.action) (sym shut) (lacks-handled before core j.at_server m.e did m.has d needs)

@@ -58,7 +58,7 @@ busies-writes (Drops key) busies is = absurd cc
 busies-writes (Switches on) busies is = absurd cc
 
 -- does nothing to its own circuit beside the numbers
-write-same : (place : ℕ) (action : Action) (j : Joined) → is_write action ≡ true → numbers_after place action j ≡ j
+pub write-same : (place : ℕ) (action : Action) (j : Joined) → is_write action ≡ true → numbers_after place action j ≡ j
 write-same place (Applies name value b) j is = refl
 write-same place (Waits name value) j is = refl
 write-same place Nothing j is = refl
@@ -210,7 +210,7 @@ module _ (before core : Server) (j : Joined) (ks : List Joined) (rs : List Recor
   }
 
   -- whether it wrote
-  pub handled-wrote : wrote_by did ≡ busies_of d.next.action
+  handled-wrote : wrote_by did ≡ busies_of d.next.action
   handled-wrote = ap (λ (e : Effect). wrote_by e) d.tells ∙ wrote-due d.next.m d.next.action
 
   -- no end has ended by it, if it was no write

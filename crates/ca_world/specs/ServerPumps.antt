@@ -1,6 +1,6 @@
 -- Working: updates leave the queues of a server's end.
-use Rattle.std.specs.Prelude.{ℕ, ◌≡◌, ◌≢◌, ◌+◌, ◌==◌, ◌⊎◌, List, [], drop, Option, Some, None, Ok}
-use Rattle.std.specs.Prelude.{Err, Result, map}
+use Rattle.std.specs.Prelude.{ℕ, ◌≡◌, ◌≢◌, ◌==◌, ◌⊎◌, List, [], Option, Some, None, Ok, Err, Result}
+use Rattle.std.specs.Prelude.{map}
 use Rattle.std.specs.List.{FoldsTo}
 use Rattle.ca_arena.specs.declared.handle.Handle.{Handle}
 use Rattle.ca_text.specs.declared.refusal.Refusal.{Refusal}
@@ -15,26 +15,15 @@ use Rattle.ca_model.specs.World.{grown}
 use Rattle.ca_model.specs.World as model
 use Rattle.ca_world_data.specs.declared.joined.Joined.{Joined}
 use Rattle.ca_world_data.specs.declared.server.ServerSide.{ServerSide}
+use Rattle.ca_world_data.specs.Does.{MayPump}
 use Rattle.ca_world_data.specs.Seen.{joined_of, record_of, server_of}
-use Rattle.ca_world_data.specs.Updates.{AreGood, TellsOne, TellsUpdates}
+use Rattle.ca_world_data.specs.Updates.{AreGood, TellsOne, shown_by}
 use Rattle.ca_world_data.specs.Withdrawing.{all_withdrawn}
-use Rattle.ca_wire.specs.Fields.{Fields}
-
--- the messages of updates
-abbrev pub shown_by : List Update → List Fields
-shown_by updates = map (λ (u : Update). u.message) updates
 
 -- all updates that a pump of this end sends are messages
 abbrev pub UpdatesFit : Server → Handle → Type 0
 UpdatesFit y h =
     (updates : List Update) (new : Server) → Pumps y h updates new → AreGood (shown_by updates)
-
--- Bytes after the n that waited: their updates went down.
-pub record TellsBehind (waited : ℕ) (bytes : List ℕ) (j : model.Joined) (read : ℕ)
-    (new : model.Joined) : Type 0 where
-  pub n : ℕ
-  pub is : read ≡ waited + n
-  pub tells : TellsUpdates (drop waited bytes) j n new
 
 -- Updates left the queues of the end under the circuit's handle, and went down with their numbers.
 pub record Pumped (y : Server) (j new : model.Joined) : Type 0 where
@@ -75,5 +64,6 @@ PumpsServer k y j logs (Ok _) y' j' logs' =
     })
     × (logs' ≡ grown y.life (all_withdrawn k y.records.items) logs)))
 PumpsServer k y j logs (Err OutOfMemory) y' j' logs' =
-    (all_withdrawn k y.records.items ≢ []) × (y' ≡ y) × (j' ≡ j) × (logs' ≡ logs)
+    ((all_withdrawn k y.records.items ≢ []) ⊎ MayPump y.core (joined_of j)) × (y' ≡ y)
+    × (joined_of j' ≡ joined_of j) × (logs' ≡ logs)
 PumpsServer k y j logs (Err _) y' j' logs' = ⊥

@@ -19,8 +19,11 @@ use Rattle.ca_world.specs.Reported.{HasReported}
 use Rattle.ca_world.specs.ServerStepping.{StepsAt, with_lists}
 use Rattle.ca_world.specs.declared.server_step.Prepared.{Prepared}
 use Rattle.ca_world.specs.declared.server_step.SteppingEnd.{SteppingEnd}
+use Rattle.ca_world_data.specs.declared.joined.Joined.{Joined as Opened}
+use Rattle.ca_world_data.specs.declared.replies.Spare.{Spare}
 use Rattle.ca_world_data.specs.declared.server.ServerSide.{ServerSide}
 use Rattle.ca_world_data.specs.Numbering.{AllAlike, AreAlike}
+use Rattle.ca_world_data.specs.Replies.{IsSpare}
 use Rattle.ca_world_data.specs.Reporting.{Reports}
 use Rattle.ca_world_data.specs.Seen.{server_of, step_of, told_of}
 use Rattle.ca_world_data.specs.Updates.{AreGood}
@@ -28,7 +31,7 @@ use Rattle.ca_world_servers.specs.declared.ahead.Ahead.{Ahead}
 use Rattle.ca_world_servers.specs.declared.coming.Coming.{Coming}
 use Rattle.ca_world_servers.specs.Effects.{AreApart, IsAhead, TellsMessage, TellsWrite}
 use Rattle.ca_world_servers.specs.EndsWith.{ReportsWith}
-use Rattle.ca_world_servers.specs.Handling.{with_handled}
+use Rattle.ca_world_servers.specs.Handling.{HasRoomToBegin, HasRoomToNote, with_handled}
 use Rattle.ca_world_servers.specs.Losing.{AreSeated}
 use Rattle.ca_world_servers.specs.Parting.{AreBeside}
 
@@ -84,6 +87,17 @@ pub record MayBegin (i : ℕ) (core : Server) (j : Joined) (ks : List Joined)
   pub apart : AreApart rs
   pub unstamped : core.stamp ≡ record { seconds = 0; nanos = 0 }
   pub reported : HasReported core
+
+-- A circuit has room for the step of a message of this command, for its replies, and for what it
+-- may begin there.
+pub record HasRoomAhead (number : ℕ) (j : Opened) : Type 0 where
+  pub notes : HasRoomToNote 2 j
+  pub begins : HasRoomToBegin number j
+
+-- memory for replies, of which the first has so many bytes at most behind its header
+pub record IsSpareFor (size : ℕ) (s : Spare) : Type 0 where
+  pub spare : IsSpare s
+  pub many : size ≤ vec_capacity s.payload
 
 -- ---- after it
 

@@ -1,5 +1,4 @@
-//! A circuit is cut at its server: its puts that wait are withdrawn. A step and a pump for which
-//! there is not enough memory cut their end by `cut_end`, too.
+//! A circuit is cut at its server: its puts that wait are withdrawn.
 ghost use Rattle.std.specs.Prelude.{◌≡◌};
 ghost use Rattle.ca_ids.specs.Table.{under};
 ghost use Rattle.ca_model.specs.ServerSteps.{output_of};
@@ -79,7 +78,7 @@ fn cut_at(
 }
 
 // Cuts the open end under this handle, which a step reports at once: what it leaves.
-pub(crate) fn cut_end(alloc: Global, core: &mut ServerCore, circuit: Handle) -> Pipe
+fn cut_end(alloc: Global, core: &mut ServerCore, circuit: Handle) -> Pipe
     requires { IsServing core.old circuit }
     ensures left { result ≡ output_of (under core.old.circuits circuit) }
     ensures core { core.new ≡ cut_core circuit core.old }

@@ -1,11 +1,10 @@
 //! A server's end of a circuit handles its next message, which may concern each other circuit of
-//! that server. Begin at `step_at`: what needs memory is made before the step; if the rest finds
-//! none after it, the end closes.
-ghost use Rattle.std.specs.Prelude.{ℕ, ◌≡◌, ◌+◌, ◌<◌, ◌≤◌, [], Bool, IfOk, List, None, OnErr, OnOk};
-ghost use Rattle.std.specs.Prelude.{Some, length, map, take, vec_capacity, vec_len};
+//! that server. Begin at `step_at`: all that needs memory is made before the step.
+ghost use Rattle.std.specs.Prelude.{ℕ, ◌≡◌, ◌+◌, ◌<◌, ◌≤◌, [], Bool, IfOk, List, None, OnOk, Some};
+ghost use Rattle.std.specs.Prelude.{length, map, vec_capacity, vec_len};
 ghost use Rattle.ca_ids.specs.Table.{under};
 ghost use Rattle.ca_model.specs.Server.{Server};
-ghost use Rattle.ca_model.specs.ServerSteps.{NeedsMemory, output_of};
+ghost use Rattle.ca_model.specs.ServerSteps.{output_of};
 ghost use Rattle.ca_model.specs.Events as event;
 ghost use Rattle.ca_model.specs.World as model;
 ghost use Rattle.ca_model.specs.World.{log_length};
@@ -18,24 +17,25 @@ ghost use Rattle.ca_world.specs.Counted.{HasEntries};
 ghost use Rattle.ca_world.specs.Reported.{HasReported};
 ghost use Rattle.ca_world.specs.Resting.{ComesUp, StepsOrRests};
 ghost use Rattle.ca_world.specs.ServerStepping.{StepsAt, with_lists};
-ghost use Rattle.ca_world.specs.StepParts.{AreAside, ClosesWith, IsAheadOf, IsHandled, IsPrepared};
-ghost use Rattle.ca_world.specs.StepParts.{MayBegin, MayStep, NotesAt, StandBehind, StepsServer};
+ghost use Rattle.ca_world.specs.StepParts.{AreAside, ClosesWith, HasRoomAhead, IsAheadOf};
+ghost use Rattle.ca_world.specs.StepParts.{IsHandled, IsPrepared, IsSpareFor, MayBegin, MayStep};
+ghost use Rattle.ca_world.specs.StepParts.{NotesAt, StandBehind, StepsServer};
 ghost use Rattle.ca_world_data.specs.declared.joined.Joined as opened;
 ghost use Rattle.ca_world_data.specs.Does.{Does};
 ghost use Rattle.ca_world_data.specs.Numbering.{AllAlike, AllMayCount};
 ghost use Rattle.ca_world_data.specs.Opening.{entries_in};
+ghost use Rattle.ca_world_data.specs.Replies.{AreWithin, IsSpare};
 ghost use Rattle.ca_world_data.specs.Reporting.{AreServed, Reports, waits};
 ghost use Rattle.ca_world_data.specs.Seen.{joined_of, queue_of, record_of, server_of, step_of};
 ghost use Rattle.ca_world_data.specs.Seen.{told_of};
-ghost use Rattle.ca_world_data.specs.ServerCuts.{HasRoomFor, IsServing, cut_core};
+ghost use Rattle.ca_world_data.specs.ServerCuts.{HasRoomFor};
 ghost use Rattle.ca_world_servers.specs.declared.ahead.Ahead as known;
 ghost use Rattle.ca_world_servers.specs.declared.coming.Coming as coming;
-ghost use Rattle.ca_world_servers.specs.Effects.{AreApart, BeginsNew, IsPartingOf, MayLackFor};
+ghost use Rattle.ca_world_servers.specs.Effects.{AreApart, BeginsNew, HasRoomBy, IsPartingOf};
 ghost use Rattle.ca_world_servers.specs.Effects.{MayWaitFor, numbers_by, wrote_by};
-ghost use Rattle.ca_world_servers.specs.Handling.{HasRoomToNote, with_handled};
+ghost use Rattle.ca_world_servers.specs.Handling.{with_handled};
 
 use crate::circuits::count_up;
-use crate::cut_server::cut_end;
 use crate::resting::may_take;
 use crate::world::World;
 use ca_arena::Handle;
@@ -46,7 +46,7 @@ use ca_world_data::ends::ends_at;
 use ca_world_data::history::{LogEntry, Step, Told};
 use ca_world_data::joined::Joined;
 use ca_world_data::numbering::check_counts;
-use ca_world_data::replies::replies_in;
+use ca_world_data::replies::{MOST_REPLIES, Spare, make_spare, replies_in};
 use ca_world_data::reporting::{report_ends, reserve_reports};
 use ca_world_data::server::{RecordSide, ServerSide};
 use ca_world_servers::ahead::{Ahead, look_at};
@@ -54,7 +54,7 @@ use ca_world_servers::coming::Coming;
 use ca_world_servers::doing::{tell_effect, tell_write};
 use ca_world_servers::effects::{tell_on, wrote_by, wrote_of};
 use ca_world_servers::ends_with::report_ends_with;
-use ca_world_servers::handling::{note_handled, reserve_handled};
+use ca_world_servers::handling::{note_handled, reserve_begin, reserve_handled};
 use std::alloc::{AllocError, Global};
 
 // The end whose step it is: the numbers of its circuit and its server, and the handle by which that
@@ -153,7 +153,7 @@ fn step_or_rest(
 }
 
 // A step of the end of a circuit at this server, which may lack memory though it takes no message.
-// All that needs memory, except the replies, is made before it.
+// All that needs memory is made before it.
 fn step_at(
     alloc: Global,
     circuit: usize,
@@ -182,8 +182,9 @@ fn step_at(
         (map joined_of circuits.new.items)
         (entries_in logs.new.items) }
 {
-    reserve_handled(&mut circuits[circuit], 0)?;
     let ahead = next_ahead(alloc, &side.core, &circuits[circuit], &mut side.records)?;
+    reserve_step(&mut circuits[circuit], ahead.command)?;
+    let spare = make_spare(alloc, ahead.reply)?;
     check_write(circuits, &ahead.write)?;
     reserve_reports(logs, side.life, &side.records, 2)?;
     let at = circuits[circuit].at_server;
@@ -195,8 +196,18 @@ fn step_at(
         waited: side.core.out_bytes(at).len(),
         applied: side.core.applied(),
     };
-    step_end(&turn, side, circuits, logs, ahead);
+    step_end(&turn, side, circuits, logs, ahead, spare);
     Ok(())
+}
+
+// Makes room on a circuit for its step, for the replies to a message of this command, and for what
+// that may begin there.
+fn reserve_step(joined: &mut Joined, command: u16) -> Result<(), AllocError>
+    ensures same { joined_of joined.new ≡ joined_of joined.old }
+    ensures room { OnOk result (HasRoomAhead command joined.new) }
+{
+    reserve_handled(joined, MOST_REPLIES)?;
+    reserve_begin(joined, command)
 }
 
 // Whether one more post can be counted for each subscription that stands, if a message writes.
@@ -227,6 +238,7 @@ fn next_ahead(
             command: 0,
             write: None,
             parting: None,
+            reply: 0,
         });
     }
     let ahead = look_at(
@@ -246,6 +258,7 @@ fn step_end(
     circuits: &mut Vec<Joined>,
     logs: &mut Vec<Vec<LogEntry>>,
     ahead: Ahead,
+    spare: Spare,
 )
     requires within { turn.now.circuit < vec_len circuits.old }
     requires may { (j : model.Joined)
@@ -258,7 +271,8 @@ fn step_end(
         turn.now.server }
     requires counts { (w : coming.Coming) → ahead.write ≡ Some w → AllMayCount circuits.old.items }
     requires notes { (j : opened.Joined)
-        → At circuits.old.items turn.now.circuit j → HasRoomToNote 0 j }
+        → At circuits.old.items turn.now.circuit j → HasRoomAhead ahead.command j }
+    requires spare { IsSpareFor ahead.reply spare }
     requires space { MayWaitFor ahead.write side.old.records.items }
     requires room { HasRoomFor (waits side.old.records.items + 2) side.old.life logs.old.items }
     ensures steps { (j : model.Joined)
@@ -275,7 +289,7 @@ fn step_end(
     ensures numbers { side.new.circuits.items ≡ side.old.circuits.items }
 {
     match side.core.step(turn.at) {
-        Did::Handled(effect) => tell_step(turn, side, circuits, logs, ahead, effect),
+        Did::Handled(effect) => tell_step(turn, side, circuits, logs, ahead, spare, effect),
         Did::Closed(_, left) => {
             let wrote = wrote_of(&side.core, turn.applied, ahead.command, &ahead.write);
             close_stepped(turn, side, circuits, logs, wrote, ahead.write, left);
@@ -285,14 +299,14 @@ fn step_end(
     }
 }
 
-// A message was handled, with this effect. If there is no memory for what it
-// leaves, its end closes.
+// A message was handled, with this effect. There is room for what it leaves.
 fn tell_step(
     turn: &SteppingEnd,
     side: &mut ServerSide,
     circuits: &mut Vec<Joined>,
     logs: &mut Vec<Vec<LogEntry>>,
     ahead: Ahead,
+    spare: Spare,
     effect: Effect,
 )
     requires within { turn.now.circuit < vec_len circuits.old }
@@ -307,7 +321,8 @@ fn tell_step(
         turn.now.server }
     requires counts { (w : coming.Coming) → ahead.write ≡ Some w → AllMayCount circuits.old.items }
     requires notes { (j : opened.Joined)
-        → At circuits.old.items turn.now.circuit j → HasRoomToNote 0 j }
+        → At circuits.old.items turn.now.circuit j → HasRoomAhead ahead.command j }
+    requires spare { IsSpareFor ahead.reply spare }
     requires space { MayWaitFor ahead.write side.old.records.items }
     requires room { HasRoomFor (waits side.old.records.items + 2) side.old.life logs.old.items }
     ensures steps { (before : Server) (j : model.Joined)
@@ -326,129 +341,82 @@ fn tell_step(
         (entries_in logs.new.items) }
     ensures numbers { side.new.circuits.items ≡ side.old.circuits.items }
 {
-    match prepare(turn, &side.core, &mut circuits[turn.circuit], effect) {
-        Ok(prepared) => note(turn, side, circuits, logs, ahead, effect, prepared),
-        Err(_) => {
-            let left = cut_short(turn, &mut side.core);
-            close_stepped(
-                turn,
-                side,
-                circuits,
-                logs,
-                wrote_by(effect),
-                ahead.write,
-                left,
-            );
-        }
-    }
+    let prepared = prepare(turn, &side.core, &mut circuits[turn.circuit], effect, spare);
+    note(turn, side, circuits, logs, ahead, effect, prepared);
 }
 
 // The replies to a message that was handled with this effect, which is begun on its circuit.
-// Without memory the circuit is as it was: its message needs some.
 fn prepare(
     turn: &SteppingEnd,
     core: &ServerCore,
     joined: &mut Joined,
     effect: Effect,
-) -> Result<Prepared, AllocError>
+    spare: Spare,
+) -> Prepared
     requires was { (before : Server) × (ks : List model.Joined) × (rs : List model.RecordSide)
         × (a : known.Ahead) × (m : MayStep turn.now before (joined_of joined.old) ks rs a)
-        × IsHandled before core.now joined.old.at_server m.e effect }
-    requires room { HasRoomToNote 0 joined.old }
-    ensures ok { IfOk result (λ p. (before : Server)
-        (ks : List model.Joined) (rs : List model.RecordSide) (a : known.Ahead)
-        (m : MayStep turn.now before (joined_of joined.old) ks rs a)
+        × IsHandled before core.now joined.old.at_server m.e effect
+        × HasRoomAhead a.command joined.old × IsSpareFor a.reply spare }
+    ensures prepared { (before : Server) (ks : List model.Joined) (rs : List model.RecordSide)
+        (a : known.Ahead) (m : MayStep turn.now before (joined_of joined.old) ks rs a)
         (d : IsHandled before core.now joined.old.at_server m.e effect)
-        → IsPrepared before m.e (joined_of joined.old) d.next p (joined_of joined.new)) }
-    ensures aside { IfOk result (λ p. AreAside (joined_of joined.old) p) }
-    ensures err { OnErr result (joined_of joined.new ≡ joined_of joined.old) }
-    ensures needs { OnErr result ((before : Server)
-        (ks : List model.Joined) (rs : List model.RecordSide) (a : known.Ahead)
-        (m : MayStep turn.now before (joined_of joined.old) ks rs a)
-        (d : IsHandled before core.now joined.old.at_server m.e effect)
-        → NeedsMemory d.next.m d.next.replies d.next.action) }
+        → IsSpareFor a.reply spare
+        → IsPrepared before m.e (joined_of joined.old) d.next result (joined_of joined.new) }
+    ensures aside { AreAside (joined_of joined.old) result }
 {
     let place = joined.lists.handled.len();
-    let told = replies_behind(turn, core, place)?;
-    reserve_replies(joined, told.len())?;
-    let prepared = begin(turn.alloc, joined, effect, told, place)?;
-    Ok(prepared)
+    let told = replies_behind(turn, core, place, spare);
+    begin(turn.alloc, joined, effect, told, place)
 }
 
-// The replies after the bytes that waited on a circuit, as those to the message at this place.
-// Without replies no memory is needed.
-fn replies_behind(
-    turn: &SteppingEnd,
-    core: &ServerCore,
-    place: usize,
-) -> Result<Vec<Told>, AllocError>
-    requires { (ms : List Fields)
-        × StandBehind turn.now.waited (output_of (under core.now.circuits turn.now.at)) ms }
-    ensures all { IfOk result (λ all. (ms : List Fields)
+// The replies after the bytes that waited on a circuit, as those to the message at this place, in
+// the spare memory.
+fn replies_behind(turn: &SteppingEnd, core: &ServerCore, place: usize, spare: Spare) -> Vec<Told>
+    requires spare { IsSpare spare }
+    requires behind { (ms : List Fields)
+        × StandBehind turn.now.waited (output_of (under core.now.circuits turn.now.at)) ms
+        × AreWithin (vec_capacity spare.payload) ms }
+    ensures all { (ms : List Fields)
         → StandBehind turn.now.waited (output_of (under core.now.circuits turn.now.at)) ms
-        → map told_of all.items ≡ about place history.Reply ms) }
-    ensures some { OnErr result (turn.now.waited
-        < length (output_of (under core.now.circuits turn.now.at))) }
+        → AreWithin (vec_capacity spare.payload) ms
+        → map told_of result.items ≡ about place history.Reply ms }
+    ensures two { length result.items ≤ 2 }
 {
     let bytes = core.out_bytes(turn.at);
-    if bytes.len() <= turn.waited {
-        return Ok(Vec::new(turn.alloc));
-    }
-    let all = replies_in(turn.alloc, &bytes[turn.waited..], place)?;
-    Ok(all)
+    replies_in(turn.alloc, &bytes[turn.waited..], place, spare)
 }
 
-// Makes room for n replies to a message that is handled, beside that for its step. Without replies
-// no memory is needed.
-fn reserve_replies(joined: &mut Joined, replies: usize) -> Result<(), AllocError>
-    requires { HasRoomToNote 0 joined.old }
-    ensures same { joined_of joined.new ≡ joined_of joined.old }
-    ensures room { OnOk result (HasRoomToNote replies joined.new) }
-    ensures some { OnErr result (0 < replies) }
-{
-    if replies == 0 {
-        return Ok(());
-    }
-    reserve_handled(joined, replies)?;
-    Ok(())
-}
-
-// What the message did is begun on its circuit, whose lists are held aside. Without
-// memory it is as it was.
+// What the message did is begun on its circuit, whose lists are held aside. There is room for it.
 fn begin(
     alloc: Global,
     joined: &mut Joined,
     effect: Effect,
     told: Vec<Told>,
     place: usize,
-) -> Result<Prepared, AllocError>
+) -> Prepared
     requires seated { AreSeated (joined_of joined.old) }
     requires new { BeginsNew effect (map (λ q. queue_of q.0) joined.old.queues.items) }
-    ensures ok { OnOk result (joined_of joined.new
-        ≡ numbers_by effect place (with_lists [] [] (joined_of joined.old))) }
-    ensures told { IfOk result (λ p. p.told ≡ told) }
-    ensures down { IfOk result (λ p. p.down ≡ joined.old.lists.down) }
-    ensures handled { IfOk result (λ p. p.handled ≡ joined.old.lists.handled) }
-    ensures err { OnErr result (joined_of joined.new ≡ joined_of joined.old) }
-    ensures lacks { OnErr result (MayLackFor effect) }
+    requires room { HasRoomBy effect joined.old }
+    ensures circuit { joined_of joined.new
+        ≡ numbers_by effect place (with_lists [] [] (joined_of joined.old)) }
+    ensures told { result.told ≡ told }
+    ensures down { result.down ≡ joined.old.lists.down }
+    ensures handled { result.handled ≡ joined.old.lists.handled }
 {
     let (down, handled) = take_lists(alloc, joined);
-    match tell_on(joined, effect, place) {
-        Ok(()) => Ok(Prepared {
-            told,
-            down,
-            handled,
-        }),
-        Err(e) => {
-            give_lists(joined, down, handled);
-            Err(e)
-        }
+    tell_on(joined, effect, place);
+    Prepared {
+        told,
+        down,
+        handled,
     }
 }
 
 // Takes what went down and was handled from a circuit.
 fn take_lists(alloc: Global, joined: &mut Joined) -> (Vec<Told>, Vec<Step>)
     ensures circuit { joined_of joined.new ≡ with_lists [] [] (joined_of joined.old) }
+    ensures creations { joined.new.creations ≡ joined.old.creations }
+    ensures standing { joined.new.standing ≡ joined.old.standing }
     ensures queues { joined.new.queues ≡ joined.old.queues }
     ensures down { result.0 ≡ joined.old.lists.down }
     ensures handled { result.1 ≡ joined.old.lists.handled }
@@ -456,20 +424,6 @@ fn take_lists(alloc: Global, joined: &mut Joined) -> (Vec<Told>, Vec<Step>)
     let down = std::mem::replace(&mut joined.lists.down, Vec::new(alloc));
     let handled = std::mem::replace(&mut joined.lists.handled, Vec::new(alloc));
     (down, handled)
-}
-
-// Gives it back.
-fn give_lists(joined: &mut Joined, down: Vec<Told>, handled: Vec<Step>)
-    ensures circuit { joined_of joined.new
-        ≡ with_lists
-        (map told_of down.items)
-        (map step_of handled.items)
-        (joined_of joined.old) }
-    ensures down { joined.new.lists.down ≡ down }
-    ensures handled { joined.new.lists.handled ≡ handled }
-{
-    joined.lists.down = down;
-    joined.lists.handled = handled;
 }
 
 // What the message did is told, ends that ended by its write are reported, and it is
@@ -583,7 +537,8 @@ fn note_on(joined: &mut Joined, down: Vec<Told>, handled: Vec<Step>, step: Step,
         (map told_of told.items)
         (with_lists (map told_of down.items) (map step_of handled.items) (joined_of joined.old)) }
 {
-    give_lists(joined, down, handled);
+    joined.lists.down = down;
+    joined.lists.handled = handled;
     note_handled(joined, step, told);
 }
 
@@ -648,16 +603,4 @@ fn close_stepped(
         write,
     );
     report_ends_with(turn.alloc, turn.server, side, circuits, logs, turn.at, left);
-}
-
-// Cuts the end, of which only the bytes that waited count as left.
-fn cut_short(turn: &SteppingEnd, core: &mut ServerCore) -> Pipe
-    requires { IsServing core.old turn.now.at }
-    ensures left { result
-        ≡ take turn.now.waited (output_of (under core.old.circuits turn.now.at)) }
-    ensures core { core.new ≡ cut_core turn.now.at core.old }
-{
-    let mut left = cut_end(turn.alloc, core, turn.at);
-    left.truncate(turn.waited);
-    left
 }

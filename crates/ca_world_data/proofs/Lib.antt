@@ -21,13 +21,14 @@ pub mod Counting
 pub mod Handed
 pub mod Accepted
 pub mod Going
-pub mod Readings
 pub mod UpdatesTold
+pub mod UpdatesGiven
+pub mod UpdateRooms
 pub mod UpdateTellings
 pub mod Silences
 pub mod Momentary
 pub mod Acceptances
-pub mod RepliesRead
+pub mod RepliesWithin
 pub mod Steppings
 pub mod Tellings
 pub mod Each

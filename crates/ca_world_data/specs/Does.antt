@@ -2,11 +2,15 @@
 use Rattle.std.specs.Prelude.{ℕ, ◌≡◌, ◌≢◌, ◌<◌, ◌==◌, ◌⊎◌, true, List, [], Result, Ok, Err, Some}
 use Rattle.std.specs.Prelude.{None, is_some, length, nat_lt, take}
 use Rattle.ca_link.specs.Link.{LinkState, TakesFirst}
+use Rattle.ca_queue.specs.declared.entry.SubKey.{SubKey}
+use Rattle.ca_queue.specs.Queue.{Queue}
+use Rattle.ca_queue.specs.Waiting.{taken}
 use Rattle.ca_records.specs.Calls.{MayAdd, PostFits}
 use Rattle.ca_records.specs.Puts.{Record, record_named}
 use Rattle.ca_text.specs.declared.refusal.Refusal.{Refusal}
 use Rattle.ca_text.specs.declared.refusal.Refusal.TheVariants.{BadEvent, OutOfMemory}
 use Rattle.ca_text.specs.Limits.{output_limit}
+use Rattle.ca_text.specs.Place.{At}
 use Rattle.ca_wire.specs.Fields.{Fields}
 use Rattle.ca_wire.specs.Stream.{NoneBegins}
 use Rattle.ca_model.specs.Client.{Client, Connection, connection_at}
@@ -25,6 +29,19 @@ use Rattle.ca_model.specs.World.{ClientSide, Joined, ServerSide, World}
 -- a put of circuit k waits at the server
 abbrev pub HasWaiting : (k : ℕ) → ServerSide → Type 0
 HasWaiting k y = withdrawals (λ (n : ℕ). n == k) y.records ≢ []
+
+-- some queue gives an entry
+abbrev pub GivesSome : {E : Type 0} → List (Queue E) → Type 0
+GivesSome {E} queues =
+    (place : ℕ) × (q : Queue E) × (w : SubKey × E) × At queues place q
+    × (taken q.events_on q.waiting ≡ Some w)
+
+-- An update may leave the server's end of a circuit: its output has room, and a queue gives one.
+pub record MayPump (core : Server) (j : Joined) : Type 0 where
+  pub e : ServerEnd
+  pub has : HasEnd core j.at_server e
+  pub room : length e.link.output < output_limit
+  pub gives : GivesSome e.queues
 
 -- a whole message is the first of what came to an end
 abbrev pub HasWhole : LinkState → Type 0
@@ -54,10 +71,11 @@ HasNames x = (x.names.channels ≢ []) ⊎ (x.names.requests ≢ [])
 
 -- The event can be done, and may lack memory as a whole. It takes none if it is one of these: no
 -- bytes up, or down for which the client sends nothing; a datagram without a message; a step of an
--- end that takes no message; a cut at a client whose life had no channel and no request; a cut or a
--- pump at a server's end of whose puts none waits; a finish of a record that is not busy; and a
--- post, a removal or a new record that the server refuses for another cause. A moment has come to
--- clients before the one that lacks it (`TicksBefore`).
+-- end that takes no message; a cut at a client whose life had no channel and no request; a cut at a
+-- server's end of whose puts none waits, and a pump of such an end which no update may leave; a
+-- finish of a record that is not busy; and a post, a removal or a new record that the server
+-- refuses for another cause. A moment has come to clients before the one that lacks it
+-- (`TicksBefore`).
 abbrev pub MayLack : World → Event → Type 0
 MayLack w (event.Up k n) = CanBe w (event.Up k n) × (n ≢ 0)
 MayLack w (event.Down k n) =
@@ -71,7 +89,8 @@ MayLack w (event.ServerDatagram i from bytes) =
 MayLack w (event.ServerStep k) = (at : HasServerEnd w k) × MayTake (at.y).core at.j
 MayLack w (event.ClientStep k) = (at : HasClientEnd w k) × MayHear (at.x).core at.j
 MayLack w (event.CutClient k) = (at : HasClientEnd w k) × HasNames at.x
-MayLack w (event.Pump k) = (at : HasServerEnd w k) × HasWaiting k at.y
+MayLack w (event.Pump k) =
+    (at : HasServerEnd w k) × (HasWaiting k at.y ⊎ MayPump (at.y).core at.j)
 MayLack w (event.CutServer k) = (at : HasServerEnd w k) × HasWaiting k at.y
 MayLack w (event.Finish i name) =
     (at : IsServer w i)

@@ -1,20 +1,35 @@
 -- Working: replies of a server that are read off its bytes.
-use Rattle.std.specs.Prelude.{ℕ, ◌≡◌, ◌++◌, List, length}
+use Rattle.std.specs.Prelude.{ℕ, ◌≡◌, ◌+◌, ◌≤◌, List, [], ◌∷◌, length, vec_capacity, vec_len}
 use Rattle.ca_wire.specs.Fields.{Fields}
 use Rattle.ca_wire.specs.Message.{spelled}
 use Rattle.ca_model.specs.History.{Reply, Told}
 use Rattle.ca_model.specs.ServerEvents.{about}
+use Rattle.ca_world_data.specs.declared.replies.Spare.{Spare}
 use Rattle.ca_world_data.specs.Updates.{AreGood}
 
--- These are the messages that the bytes are, as replies about the client's message at this place.
-abbrev pub AreReplies : List ℕ → (place : ℕ) → List Told → Type 0
-AreReplies bytes place told =
-    (ms : List Fields) → AreGood ms → bytes ≡ spelled ms → told ≡ about place Reply ms
+-- There are at most two messages, of which the first has at most n bytes behind its header, and the
+-- second none.
+abbrev pub AreWithin : ℕ → List Fields → Type 0
+AreWithin n [] = Unit {0}
+AreWithin n (a ∷ []) = length a.payload ≤ n
+AreWithin n (a ∷ b ∷ []) = (length a.payload ≤ n) × (b.payload ≡ [])
+AreWithin n ms = ⊥
 
--- Of these messages the first ones are told, and have n bytes.
-pub record RepliesSome (ms : List Fields) (place read : ℕ) (told : List Told) : Type 0 where
-  pub front : List Fields
-  pub back : List Fields
-  pub are : ms ≡ front ++ back
-  pub size : read ≡ length (spelled front)
-  pub told_are : told ≡ about place Reply front
+-- memory for so many replies, of which there is none yet
+pub record IsSpare (s : Spare) : Type 0 where
+  pub none : s.told.items ≡ []
+  pub two : vec_len s.told + 2 ≤ vec_capacity s.told
+  pub empty : s.payload.items ≡ []
+
+-- the bytes are what so many messages are spelled
+pub record AreFew (n : ℕ) (bytes : List ℕ) : Type 0 where
+  pub ms : List Fields
+  pub good : AreGood ms
+  pub are : bytes ≡ spelled ms
+  pub within : AreWithin n ms
+
+-- These are the messages that the bytes are, as replies about the client's message at this place.
+abbrev pub AreReplies : (most : ℕ) → List ℕ → (place : ℕ) → List Told → Type 0
+AreReplies most bytes place told =
+    (ms : List Fields) → AreGood ms → bytes ≡ spelled ms → AreWithin most ms
+    → told ≡ about place Reply ms

@@ -1,42 +1,85 @@
 -- Working: messages of a server that are read off its bytes; of updates, each with the number
--- that its queue returns.
-use Rattle.std.specs.Prelude.{ℕ, ◌≡◌, ◌++◌, List, [], ◌∷◌, Option, Some, Ok, Err, Result, length}
+-- that its queue returns, into memory that was made before.
+use Rattle.std.specs.Prelude.{ℕ, ◌≡◌, ◌+◌, ◌≤◌, ◌++◌, List, [], ◌∷◌, Some, Vec, drop, length, map}
+use Rattle.std.specs.Prelude.{vec_capacity, vec_len}
 use Rattle.std.specs.List.{FoldsTo}
-use Rattle.std.specs.declared.alloc.AllocError.{AllocError}
+use Rattle.std.specs.declared.alloc.Global.{Global}
 use Rattle.ca_queue.specs.declared.entry.SubKey.{SubKey}
 use Rattle.ca_queue.specs.Circuit.{Takes}
+use Rattle.ca_queue.specs.Images.{queue_images}
 use Rattle.ca_queue.specs.Queue.{Queue}
 use Rattle.ca_text.specs.Place.{At}
 use Rattle.ca_wire.specs.Fields.{Fields}
 use Rattle.ca_wire.specs.Message.{IsMessage, spelled, spelling}
 use Rattle.ca_model.specs.History.{Cause}
+use Rattle.ca_model.specs.Server.{Server, ServerEnd, Subscription, key_of}
+use Rattle.ca_model.specs.ServerSteps.{HasEnd, Leaves, Rests, Update}
+use Rattle.ca_model.specs.Speech.{In, Stored}
+use Rattle.ca_model.specs.Updates.{ShowsTo}
 use Rattle.ca_model.specs.World.{Joined}
+use Rattle.ca_world_data.specs.declared.joined.Joined.{Joined as Opened}
+use Rattle.ca_world_data.specs.Seen.{joined_of}
 
 -- ---- bytes
 
--- the one spelling of a message begins the bytes
-pub record BeginsSpelled (bytes : List ℕ) : Type 0 where
-  pub m : Fields
-  pub good : IsMessage m
-  pub rest : List ℕ
-  pub begins : bytes ≡ spelling m ++ rest
-
--- So read, they begin with this message.
-abbrev pub ReadsFirst : List ℕ → Fields → Type 0
-ReadsFirst bytes made =
-    (m : Fields) (rest : List ℕ) → IsMessage m → bytes ≡ spelling m ++ rest → made ≡ m
+-- the messages of updates
+abbrev pub shown_by : List Update → List Fields
+shown_by updates = map (λ (u : Update). u.message) updates
 
 -- these are messages
 abbrev pub AreGood : List Fields → Type 0
 AreGood ms = (i : ℕ) (m : Fields) → At ms i m → IsMessage m
 
--- the bytes are what messages are spelled
-pub record AreSpelled (bytes : List ℕ) : Type 0 where
-  pub ms : List Fields
-  pub good : AreGood ms
-  pub are : bytes ≡ spelled ms
+-- ---- what waits
 
--- ---- updates
+-- the queues, with entries that carry nothing
+abbrev pub bare : {E : Type 0} → List (Queue E) → List (Queue (Unit {0}))
+bare {E} qs = map (queue_images (λ (e : E). tt)) qs
+
+-- Entries of the same subscriptions wait in both, in the same order.
+abbrev pub WaitAlike : {E F : Type 0} → List (Queue E) → List (Queue F) → Type 0
+WaitAlike es fs = bare es ≡ bare fs
+
+-- So they do at an open end and on its circuit.
+abbrev pub WaitsAlike : Server → Joined → Type 0
+WaitsAlike y j = (e : ServerEnd) → HasEnd y j.at_server e → WaitAlike e.queues j.queues
+
+-- ---- memory for updates: a list for each queue
+
+-- how many updates that is for
+abbrev pub how_many : List (List (Vec ℕ Global)) → ℕ
+how_many [] = 0
+how_many (own ∷ rooms) = length own + how_many rooms
+
+-- It suffices for the update that shows this entry to its subscription.
+pub record IsRoomFor (e : ServerEnd) (w : SubKey × Stored) (room : Vec ℕ Global) : Type 0 where
+  pub empty : room.items ≡ []
+  pub fits : (s : Subscription) (m : Fields) → In e.subscriptions s → key_of s ≡ w.0
+      → ShowsTo s.wanted w.1 m → length m.payload ≤ vec_capacity room
+
+-- Each of these entries has some, in their order.
+abbrev pub AreRoomsFor : ServerEnd → List (SubKey × Stored) → List (Vec ℕ Global) → Type 0
+AreRoomsFor e entries own =
+    (i : ℕ) (w : SubKey × Stored) → At entries i w
+    → (room : Vec ℕ Global) × At own i room × IsRoomFor e w room
+
+-- Unless the end rests, each entry that waits there has some.
+abbrev pub HaveRooms : ServerEnd → List (List (Vec ℕ Global)) → Type 0
+HaveRooms e rooms =
+    (Rests e → ⊥) → (place : ℕ) (q : Queue Stored) → At e.queues place q
+    → (own : List (Vec ℕ Global)) × At rooms place own × AreRoomsFor e q.waiting own
+
+-- There is memory for the updates that may leave an end, and room for as many in what went down.
+pub record HasMemory (e : ServerEnd) (j : Opened) (rooms : List (List (Vec ℕ Global)))
+    : Type 0 where
+  pub own : HaveRooms e rooms
+  pub down : vec_len j.lists.down + how_many rooms ≤ vec_capacity j.lists.down
+
+-- So it is of the open end of a circuit.
+abbrev pub IsReadyToPump : Server → Opened → List (List (Vec ℕ Global)) → Type 0
+IsReadyToPump y j rooms = (e : ServerEnd) → HasEnd y j.at_server e → HasMemory e j rooms
+
+-- ---- updates go down
 
 -- An update went down: the first queue that gives a number gave this one.
 pub record TellsOne (j : Joined) (m : Fields) (new : Joined) : Type 0 where
@@ -54,22 +97,27 @@ pub record TellsOne (j : Joined) (m : Fields) (new : Joined) : Type 0 where
         };
       }
 
--- The update that begins these bytes went down, and has n of them; or not, and nothing changed.
-abbrev pub TellsNext : List ℕ → Joined → Result ℕ AllocError → Joined → Type 0
-TellsNext bytes j (Ok n) new =
-    (m : Fields) (rest : List ℕ) → IsMessage m → bytes ≡ spelling m ++ rest
-    → (n ≡ length (spelling m)) × TellsOne j m new
-TellsNext bytes j (Err e) new = new ≡ j
+-- These updates left the queues of an end, and became these bytes. The circuit is as before that,
+-- with memory for them.
+pub record MayTell (e : ServerEnd) (us : List Update) (bytes : List ℕ) (j : Opened)
+    (rooms : List (List (Vec ℕ Global))) : Type 0 where
+  pub after : ServerEnd
+  pub leave : FoldsTo Leaves e us after
+  pub good : AreGood (shown_by us)
+  pub are : bytes ≡ spelled (shown_by us)
+  pub alike : WaitAlike e.queues (joined_of j).queues
+  pub memory : HasMemory e j rooms
 
--- Of these messages, the first ones went down, and have n bytes.
-pub record TellsSome (ms : List Fields) (j : Joined) (read : ℕ) (new : Joined) : Type 0 where
-  pub front : List Fields
-  pub back : List Fields
-  pub are : ms ≡ front ++ back
-  pub size : read ≡ length (spelled front)
-  pub told : FoldsTo TellsOne j front new
+-- The first of them went down, which has n of the bytes. So the others may.
+pub record TellsNext (u : Update) (us : List Update) (bytes : List ℕ) (j : Opened) (n : ℕ)
+    (new : Opened) (rooms : List (List (Vec ℕ Global))) : Type 0 where
+  pub size : n ≡ length (spelling u.message)
+  pub told : TellsOne (joined_of j) u.message (joined_of new)
+  pub mid : ServerEnd
+  pub left : MayTell mid us (drop n bytes) new rooms
 
--- So it is of all messages that these bytes are.
-abbrev pub TellsUpdates : List ℕ → Joined → (read : ℕ) → Joined → Type 0
-TellsUpdates bytes j read new =
-    (ms : List Fields) → AreGood ms → bytes ≡ spelled ms → TellsSome ms j read new
+-- They went down.
+abbrev pub TellsUpdates : List ℕ → Opened → List (List (Vec ℕ Global)) → Joined → Type 0
+TellsUpdates bytes j rooms new =
+    (e : ServerEnd) (us : List Update) → MayTell e us bytes j rooms
+    → FoldsTo TellsOne (joined_of j) (shown_by us) new

@@ -86,15 +86,16 @@ pub struct Recorded {
     pub meta: Meta,
 }
 
-/// What a call asks for, beside its intent.
+/// What a call asks for, beside its intent. A call that opens a channel has a line of its own.
 #[derive(Debug, Drop)]
 pub enum Wish {
+    /// Of a clear, and of the end of a subscription.
     Nothing,
-    /// A read: for elements of this type, and this many.
+    /// Of a read: elements of this type, and this many.
     ToRead(u16, u32),
-    /// A subscription: for updates of this type, with this many elements, by this mask.
+    /// Of a subscription: updates of this type, with this many elements, by this mask.
     ToWatch(u16, u32, u16),
-    /// A write of this value.
+    /// Of a put and of a plain write: this value.
     ToWrite(Value),
 }
 

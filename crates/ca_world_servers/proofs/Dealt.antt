@@ -49,28 +49,28 @@ or-cases : (a b : Bool) → a || b ≡ true → (a ≡ true) ⊎ (b ≡ true)
 or-cases true b e = inl refl
 or-cases false b e = inr e
 
-any-of : (n : ℕ) (cs : List Command) → list_any (λ (c : Command). eqb n (command_number c)) cs ≡ true → (P : ℕ → Type 0) → ((i : ℕ) (c : Command) → At cs i c → P (command_number c)) → P n
+pub any-of : (n : ℕ) (cs : List Command) → list_any (λ (c : Command). eqb n (command_number c)) cs ≡ true → (P : ℕ → Type 0) → ((i : ℕ) (c : Command) → At cs i c → P (command_number c)) → P n
 any-of n [] some P each = absurd cc
 any-of n (c ∷ cs) some P each = elim (or-cases (eqb n (command_number c)) (list_any (λ (c : Command). eqb n (command_number c)) cs) some) [
   | inl is ↦ subst P (sym (eqb-true n (command_number c) is)) (each 0 c refl)
   | inr later ↦ any-of n cs later P (λ i d at. each (suc i) d at)
 ]
 
-abbrev Each : (ℕ → Type 0) → List Command → Type 0
+abbrev pub Each : (ℕ → Type 0) → List Command → Type 0
 Each P [] = Unit {0}
 Each P (c ∷ cs) = P (command_number c) × Each P cs
 
-each-at : (P : ℕ → Type 0) (cs : List Command) → Each P cs → (i : ℕ) (c : Command) → At cs i c → P (command_number c)
+pub each-at : (P : ℕ → Type 0) (cs : List Command) → Each P cs → (i : ℕ) (c : Command) → At cs i c → P (command_number c)
 each-at P [] each i c at = absurd cc
 each-at P (d ∷ cs) each zero c at = subst (λ (x : Command). P (command_number x)) (some_is d c at) each.0
 each-at P (d ∷ cs) each (suc i) c at = each-at P cs each.1 i c at
 
-abbrev commands : List Command
+abbrev pub commands : List Command
 commands =
     command.Version ∷ command.EventAdd ∷ command.EventCancel ∷ command.Write ∷ command.Search ∷ command.EventsOff ∷ command.EventsOn ∷ command.ClearChannel
     ∷ command.ReadNotify ∷ command.CreateChannel ∷ command.WriteNotify ∷ command.ClientName ∷ command.HostName ∷ command.Echo ∷ []
 
-known-or : (b : Bool) → (b ≡ true) ⊎ (b ≡ false)
+pub known-or : (b : Bool) → (b ≡ true) ⊎ (b ≡ false)
 known-or true = inl refl
 known-or false = inr refl
 

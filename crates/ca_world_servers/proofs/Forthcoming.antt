@@ -12,22 +12,21 @@ use Rattle.ca_dbr.specs.Elements.{Elements, base_of, elements}
 use Rattle.ca_dbr.specs.Reading.{ReadRefused, Reads, ReadsElements}
 use Rattle.ca_dbr.specs.Types.{base_number, type_number}
 use Rattle.ca_dbr.proofs.OneReading.{base_number-small, reads-one, type_number-one}
-use Rattle.ca_ids.specs.Table.{held, under}
-use Rattle.ca_ids.specs.Wire.{wire_of}
+use Rattle.ca_ids.specs.Table.{under}
 use Rattle.ca_records.specs.Puts.{Record, record_named}
-use Rattle.ca_text.proofs.Places.{At-mapped, some_is}
+use Rattle.ca_text.proofs.Places.{some_is}
 use Rattle.ca_text.specs.declared.refusal.Refusal.{Refusal}
 use Rattle.ca_text.specs.declared.refusal.Refusal.TheVariants as refusal
 use Rattle.ca_wire.specs.Fields.{Fields}
-use Rattle.ca_model.specs.Due.{KnownChannel, KnownRecord, Knows, PutTaken, Serves}
+use Rattle.ca_model.specs.Due.{KnownRecord, Knows, PutTaken, Serves}
 use Rattle.ca_model.specs.Faults.{base_type_of, base_types}
-use Rattle.ca_model.specs.Server.{Open, OpenChannel, Server, ServerCircuit, ServerEnd}
-use Rattle.ca_model.specs.ServerSteps.{HasEnd, known_channel, known_record, knows}
-use Rattle.ca_model.specs.Speech.{In}
+use Rattle.ca_model.specs.Server.{Server, ServerEnd}
+use Rattle.ca_model.specs.ServerSteps.{HasEnd, known_record, knows}
 use Rattle.ca_server_core.specs.Asking.{NamesUnder}
 use Rattle.ca_server_core.specs.ForHistories.{value_in}
 use Rattle.ca_world_servers.specs.declared.coming.Coming.{Coming}
 use Rattle.ca_world_servers.specs.Coming.{Foresees, GivesElements, GivesValue}
+use Rattle.ca_world_servers.proofs.Served.{served-name, unserved}
 
 abbrev plain : BaseType → DataType
 plain b = record { base = b; form = form.Plain }
@@ -128,35 +127,16 @@ value-known None k is = absurd cc
 value-known (Some r) k is = ap (λ (z : KnownRecord). Some z.state.value) (some_is (known_record r) k is)
 
 module _ (core : Server) (h : Handle) (m : Fields) where
-  -- the channel that is served is one of the end's
-  served-seat : (e : ServerEnd) (c : Serves (knows core e) m.p1) → (x : Handle × OpenChannel) × In (held e.channels) x × (wire_of x.0 ≡ m.p1) × (x.1.retired ≡ false) × (c.channel.name ≡ x.1.name)
-  served-seat e c =
-      let d = At-mapped known_channel (held e.channels) c.open_there.0 c.channel c.open_there.1 in (
-        d.0,
-        (c.open_there.0, d.1),
-        sym (ap (λ (k : KnownChannel). k.sid) d.2) ∙ c.under,
-        sym (ap (λ (k : KnownChannel). k.retired) d.2) ∙ c.there,
-        ap (λ (k : KnownChannel). k.name) d.2,
-      )
-
   -- no channel is served
   pub none-named : NamesUnder (under core.circuits h) m.p1 None → Foresees core h m None
   none-named none e has c v taken =
-      let here : NamesUnder (Some (Open e)) m.p1 None = subst (λ (o : Option ServerCircuit). NamesUnder o m.p1 None) has none in
-      let s = served-seat e c in
-      here s.0 s.1 s.2 s.3
+      unserved core h m none e has c
 
   -- it is to the record of this name
   module _ (name : List ℕ) (named : NamesUnder (under core.circuits h) m.p1 (Some name)) where
-    served-name : (e : ServerEnd) → HasEnd core h e → (c : Serves (knows core e) m.p1) → c.channel.name ≡ name
-    served-name e has c =
-        let here : NamesUnder (Some (Open e)) m.p1 (Some name) = subst (λ (o : Option ServerCircuit). NamesUnder o m.p1 (Some name)) has named in
-        let s = served-seat e c in
-        s.4 ∙ here.1 s.0 s.1 s.2 s.3
-
     served-value : (e : ServerEnd) → HasEnd core h e → (c : Serves (knows core e) m.p1) → value_in (record_named core.records name) ≡ Some c.known.state.value
     served-value e has c =
-        value-known (record_named core.records name) c.known (ap (λ (n : List ℕ). option_map known_record (record_named core.records n)) (sym (served-name e has c)) ∙ c.named)
+        value-known (record_named core.records name) c.known (ap (λ (n : List ℕ). option_map known_record (record_named core.records n)) (sym (served-name core h m name named e has c)) ∙ c.named)
 
     -- the record is not there
     pub none-valued : (let none : Option Elements = None in none ≡ value_in (record_named core.records name)) → Foresees core h m None
@@ -172,4 +152,4 @@ module _ (core : Server) (h : Handle) (m : Fields) where
 
       pub write-given : (w : Coming) → w.name.items ≡ name → GivesValue m (base_of value) (Some (elements w.value)) → Foresees core h m (Some w)
       write-given w is gives e has c v taken =
-          (served-name e has c ∙ sym is, sym (some_is (elements w.value) v (taken-gives m (base_of value) (Some (elements w.value)) gives (knows core e) c v taken (based e has c))))
+          (served-name core h m name named e has c ∙ sym is, sym (some_is (elements w.value) v (taken-gives m (base_of value) (Some (elements w.value)) gives (knows core e) c v taken (based e has c))))

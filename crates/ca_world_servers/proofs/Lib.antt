@@ -5,3 +5,6 @@ pub mod Forthcoming
 pub mod Closings
 pub mod Done
 pub mod Dealt
+pub mod Served
+pub mod Answered
+pub mod Beginnings

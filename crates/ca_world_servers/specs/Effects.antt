@@ -27,14 +27,17 @@ use Rattle.ca_server_circuit.specs.declared.effect.Effect.{Effect}
 use Rattle.ca_server_circuit.specs.declared.effect.Effect.TheVariants.{Busied, Cancelled, Cleared}
 use Rattle.ca_server_circuit.specs.declared.effect.Effect.TheVariants.{Created, Queued, Subscribed}
 use Rattle.ca_server_circuit.specs.declared.effect.Effect.TheVariants.{Switched, Wrote}
+use Rattle.ca_world_data.specs.declared.joined.Joined.{Joined as Opened}
 use Rattle.ca_world_data.specs.declared.server.RecordSide.{RecordSide as Kept}
 use Rattle.ca_world_data.specs.declared.server.ServerSide.{ServerSide}
 use Rattle.ca_world_data.specs.Seen.{entry_of, record_of, server_of}
 use Rattle.ca_world_servers.specs.declared.ahead.Ahead.{Ahead}
 use Rattle.ca_world_servers.specs.declared.coming.Coming.{Coming}
 use Rattle.ca_world_servers.specs.declared.parting.Parting.{Parting}
+use Rattle.ca_world_servers.specs.Answering.{Answers}
 use Rattle.ca_world_servers.specs.Coming.{Foresees}
-use Rattle.ca_world_servers.specs.Handling.{HaveRoomToWait, made_busy, with_creation, with_standing}
+use Rattle.ca_world_servers.specs.Handling.{HasRoomToCreate, HasRoomToSubscribe, HaveRoomToWait}
+use Rattle.ca_world_servers.specs.Handling.{made_busy, with_creation, with_standing}
 use Rattle.ca_world_servers.specs.Handling.{with_switched, with_waiting, without_sid}
 use Rattle.ca_world_servers.specs.Parting.{all_gone, all_kept, places_in, with_kept}
 
@@ -61,12 +64,11 @@ abbrev pub BeginsNew : Effect → List (Queue (ℕ × Cause)) → Type 0
 BeginsNew (Subscribed sid sub) qs = HasNone qs (record { sid = sid; sub = sub })
 BeginsNew did qs = Unit {0}
 
--- memory can be too little for what a world has of a message only if a channel was created or
--- a subscription began
-abbrev pub MayLackFor : Effect → Type 0
-MayLackFor (Created sid) = Unit {0}
-MayLackFor (Subscribed sid sub) = Unit {0}
-MayLackFor did = ⊥
+-- the circuit has room for what began on it
+abbrev pub HasRoomBy : Effect → Opened → Type 0
+HasRoomBy (Created sid) j = HasRoomToCreate j
+HasRoomBy (Subscribed sid sub) j = HasRoomToSubscribe j
+HasRoomBy did j = Unit {0}
 
 -- ---- what is known before
 
@@ -87,8 +89,8 @@ IsPartingOf (Some p) records =
     (core : Server) × (h : Handle) × (sid : ℕ) × IsParting core h sid records p
 IsPartingOf None records = Unit {0}
 
--- What is known of a message before its step: its command, its write, if it is one, and what
--- becomes of the puts that wait on the channel that it clears.
+-- What is known of a message before its step: its command, its write, if it is one, what becomes of
+-- the puts that wait on the channel that it clears, and how large its replies are at most.
 pub record IsAhead (core : Server) (h : Handle) (records : List RecordSide) (m : Fields)
     (a : Ahead) : Type 0 where
   pub writes : IsWrite m → Foresees core h m a.write
@@ -96,6 +98,7 @@ pub record IsAhead (core : Server) (h : Handle) (records : List RecordSide) (m :
       × (a.parting ≡ Some p) × IsParting core h m.p1 records p
   pub parted : IsPartingOf a.parting records
   pub command : a.command ≡ m.command
+  pub answers : Answers core h m a.reply
 
 -- each record that the write names has room for one more put that waits
 abbrev pub MayWaitFor : Option Coming → List Kept → Type 0

@@ -1,12 +1,15 @@
 -- Working: what a message that a server handled leaves on its circuit and in the records, as the
 -- statement's functions of its action.
 use Rattle.std.specs.Prelude.{ℕ, ◌≡◌, ◌+◌, ◌≤◌, ◌++◌, ◌==◌, Bool, true, List, [], ◌∷◌, Some, filter}
-use Rattle.std.specs.Prelude.{length, map, nat_le, not, vec_capacity, vec_len}
+use Rattle.std.specs.Prelude.{IsTrue, length, map, nat_le, not, vec_capacity, vec_len}
 use Rattle.std.specs.Str.{bytes_eq}
 use Rattle.ca_queue.specs.declared.entry.SubKey.{SubKey}
 use Rattle.ca_queue.specs.Queue.{Queue, switched}
+use Rattle.ca_text.specs.Command.{command_number}
+use Rattle.ca_text.specs.declared.command.Command.TheVariants as command
 use Rattle.ca_text.specs.Limits.{queue_subscriptions}
 use Rattle.ca_text.specs.Place.{At}
+use Rattle.ca_model.specs.ClientEvents.{place_of}
 use Rattle.ca_model.specs.History.{Step, Told, Update}
 use Rattle.ca_model.specs.ServerEvents.{number_taken, without_standing}
 use Rattle.ca_model.specs.World.{Creation, Joined, PutPlace, RecordSide}
@@ -20,6 +23,28 @@ use Rattle.ca_world_data.specs.declared.server.RecordSide.{RecordSide as Kept}
 pub record HasRoomToNote (replies : ℕ) (j : Opened) : Type 0 where
   pub down : vec_len j.lists.down + replies ≤ vec_capacity j.lists.down
   pub handled : vec_len j.lists.handled + 1 ≤ vec_capacity j.lists.handled
+
+-- it has room for one more channel
+abbrev pub HasRoomToCreate : Opened → Type 0
+HasRoomToCreate j = vec_len j.creations + 1 ≤ vec_capacity j.creations
+
+-- a queue has room for one more subscription
+abbrev pub has_room : Queue (ℕ × Written) × Bool → Bool
+has_room q = not (nat_le queue_subscriptions (length q.0.subscriptions))
+
+-- the first queue with room for one more subscription has its memory, if there is one
+abbrev pub FirstIsRoomy : List (Queue (ℕ × Written) × Bool) → Type 0
+FirstIsRoomy qs = (q : Queue (ℕ × Written) × Bool) → At qs (place_of has_room qs) q → IsTrue q.1
+
+-- the circuit has room for one more subscription, with its first number
+pub record HasRoomToSubscribe (j : Opened) : Type 0 where
+  pub standing : vec_len j.standing + 1 ≤ vec_capacity j.standing
+  pub queue : FirstIsRoomy j.queues.items
+
+-- it has room for what a message of this command may begin
+pub record HasRoomToBegin (number : ℕ) (j : Opened) : Type 0 where
+  pub channel : number ≡ command_number command.CreateChannel → HasRoomToCreate j
+  pub subscription : number ≡ command_number command.EventAdd → HasRoomToSubscribe j
 
 -- a message was handled in this step, by these replies: `handled_at` of the statement
 abbrev pub with_handled : Step → List Told → Joined → Joined
@@ -43,10 +68,6 @@ with_standing key place j =
       standing = j.standing ++ record { key = key; place = place; posts = 1 } ∷ [];
       queues = number_taken key (place, Update 0) j.queues;
     }
-
--- a queue has room for one more subscription
-abbrev pub has_room : Queue (ℕ × Written) × Bool → Bool
-has_room q = not (nat_le queue_subscriptions (length q.0.subscriptions))
 
 -- events are on or off: `numbers_after` for `Switches`
 abbrev pub with_switched : Bool → Joined → Joined

@@ -2,6 +2,7 @@ pub mod Handling
 pub mod Losing
 pub mod Removing
 pub mod Parting
+pub mod Answering
 pub mod Coming
 pub mod Effects
 pub mod EndsWith

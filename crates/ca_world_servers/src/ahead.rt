@@ -9,6 +9,7 @@ ghost use Rattle.ca_world_servers.specs.Coming.{Foresees};
 ghost use Rattle.ca_world_servers.specs.Effects.{IsAhead, IsParting, IsPartingOf, IsWrite};
 ghost use Rattle.ca_world_servers.specs.Effects.{MayWaitFor};
 
+use crate::answering::reply_size;
 use crate::coming::{Coming, coming_write};
 use crate::handling::reserve_waiting;
 use crate::parting::{Parting, part_puts};
@@ -19,13 +20,14 @@ use ca_wire::Message;
 use ca_world_data::server::RecordSide;
 use std::alloc::{AllocError, Global};
 
-/// The next message: its command, the write that it may be, and the puts of the
-/// channel that it clears.
+/// The next message: its command, the write that it may be, the puts of the channel that it clears,
+/// and how many bytes the first reply to it has at most behind its header.
 #[derive(Drop)]
 pub struct Ahead {
     pub command: u16,
     pub write: Option<Coming>,
     pub parting: Option<Parting>,
+    pub reply: usize,
 }
 
 /// That of this message, the next one on this circuit; the record of its write has room for one
@@ -48,6 +50,7 @@ pub fn look_at(
         command: message.command(),
         write,
         parting,
+        reply: reply_size(core, circuit, message),
     })
 }
 

@@ -1,9 +1,9 @@
 //! What a message did beside its replies, by the effect that its step reports, is told
 //! of its circuit. A step that closed its end tells no effect: whether its message wrote
 //! is read off the core.
-ghost use Rattle.std.specs.Prelude.{◌≡◌, OnErr, OnOk, map};
+ghost use Rattle.std.specs.Prelude.{◌≡◌, map};
 ghost use Rattle.ca_world_data.specs.Seen.{joined_of, queue_of};
-ghost use Rattle.ca_world_servers.specs.Effects.{BeginsNew, MayLackFor, is_busy_in, numbers_by};
+ghost use Rattle.ca_world_servers.specs.Effects.{BeginsNew, HasRoomBy, is_busy_in, numbers_by};
 ghost use Rattle.ca_world_servers.specs.Effects.{wrote_by, wrote_in};
 ghost use Rattle.ca_world_servers.specs.Losing.{AreSeated};
 
@@ -13,39 +13,27 @@ use ca_queue::SubKey;
 use ca_server_core::{Effect, ServerCore};
 use ca_text::Command;
 use ca_world_data::joined::Joined;
-use std::alloc::AllocError;
 
-/// What the message at this place did, on the channels and subscriptions of its circuit. Without
-/// memory nothing changes.
-pub fn tell_on(joined: &mut Joined, effect: Effect, place: usize) -> Result<(), AllocError>
+/// What the message at this place did, on the channels and subscriptions of its circuit. There is
+/// room for it.
+pub fn tell_on(joined: &mut Joined, effect: Effect, place: usize)
     requires seated { AreSeated (joined_of joined.old) }
     requires new { BeginsNew effect (map (λ q. queue_of q.0) joined.old.queues.items) }
-    ensures ok { OnOk result (joined_of joined.new
-        ≡ numbers_by effect place (joined_of joined.old)) }
-    ensures err { OnErr result (joined_of joined.new ≡ joined_of joined.old) }
-    ensures lacks { OnErr result (MayLackFor effect) }
+    requires room { HasRoomBy effect joined.old }
+    ensures { joined_of joined.new ≡ numbers_by effect place (joined_of joined.old) }
 {
     match effect {
         Effect::Created(sid) => begin_channel(joined, sid, place),
         Effect::Subscribed(sid, sub) => begin_standing(joined, SubKey { sid, sub }, place),
-        Effect::Cleared(sid) => {
-            end_channel(joined, sid);
-            Ok(())
-        }
-        Effect::Cancelled(sid, sub) => {
-            end_standing(joined, SubKey { sid, sub });
-            Ok(())
-        }
-        Effect::Switched(on) => {
-            switch_events(joined, on);
-            Ok(())
-        }
-        Effect::Quiet => Ok(()),
-        Effect::Refused => Ok(()),
-        Effect::WriteRefused(_) => Ok(()),
-        Effect::Wrote(_) => Ok(()),
-        Effect::Busied(_) => Ok(()),
-        Effect::Queued(_) => Ok(()),
+        Effect::Cleared(sid) => end_channel(joined, sid),
+        Effect::Cancelled(sid, sub) => end_standing(joined, SubKey { sid, sub }),
+        Effect::Switched(on) => switch_events(joined, on),
+        Effect::Quiet => {}
+        Effect::Refused => {}
+        Effect::WriteRefused(_) => {}
+        Effect::Wrote(_) => {}
+        Effect::Busied(_) => {}
+        Effect::Queued(_) => {}
     }
 }
 

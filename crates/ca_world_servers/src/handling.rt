@@ -1,7 +1,7 @@
 //! What a message that a server handled leaves: its replies and its step on the circuit, the
-//! channels and subscriptions there, and the puts of the records. If memory is needed, a call
-//! without it changes nothing.
-ghost use Rattle.std.specs.Prelude.{◌≡◌, ◌+◌, ◌++◌, ◌≤◌, OnErr, OnOk, false, true, if◌then◌else◌};
+//! channels and subscriptions there, and the puts of the records. All memory for it is made before,
+//! by the calls that reserve: without it they change nothing.
+ghost use Rattle.std.specs.Prelude.{◌≡◌, ◌+◌, ◌++◌, ◌≤◌, IsTrue, OnOk, false, true, if◌then◌else◌};
 ghost use Rattle.std.specs.Prelude.{length, map, vec_capacity, vec_len};
 ghost use Rattle.std.specs.Str.{bytes_eq};
 ghost use Rattle.ca_queue.specs.Circuit.{HasNone};
@@ -13,14 +13,16 @@ ghost use Rattle.ca_model.specs.ServerEvents as world;
 ghost use Rattle.ca_world_data.specs.declared.history.Cause.TheVariants as cause;
 ghost use Rattle.ca_world_data.specs.Seen.{joined_of, place_of, queue_of, record_of, step_of};
 ghost use Rattle.ca_world_data.specs.Seen.{told_of};
-ghost use Rattle.ca_world_servers.specs.Handling.{HasRoomToNote, has_room, with_standing};
-ghost use Rattle.ca_world_servers.specs.Handling.{HaveRoomToWait, MayWait, made_busy};
-ghost use Rattle.ca_world_servers.specs.Handling.{with_creation, with_handled, with_switched};
-ghost use Rattle.ca_world_servers.specs.Handling.{with_waiting, without_sid};
+ghost use Rattle.ca_world_servers.specs.Handling.{FirstIsRoomy, HasRoomToBegin, HasRoomToCreate};
+ghost use Rattle.ca_world_servers.specs.Handling.{HasRoomToNote, HasRoomToSubscribe};
+ghost use Rattle.ca_world_servers.specs.Handling.{HaveRoomToWait, MayWait, has_room, made_busy};
+ghost use Rattle.ca_world_servers.specs.Handling.{with_creation, with_handled, with_standing};
+ghost use Rattle.ca_world_servers.specs.Handling.{with_switched, with_waiting, without_sid};
 ghost use Rattle.ca_world_servers.specs.Losing.{AreSeated};
 
 use crate::losing::{cancel_in, drop_lost};
 use ca_queue::{ListQueue, Queues, SubKey};
+use ca_text::Command;
 use ca_world_data::history::{Cause, Step, Told};
 use ca_world_data::joined::{AddedSubscription, CreatedChannel, Joined};
 use ca_world_data::room::reserve_list;
@@ -30,9 +32,6 @@ use std::alloc::AllocError;
 /// Makes room for n replies to a message that is handled, and for its step.
 pub fn reserve_handled(joined: &mut Joined, replies: usize) -> Result<(), AllocError>
     ensures same { joined_of joined.new ≡ joined_of joined.old }
-    ensures creations { joined.new.creations ≡ joined.old.creations }
-    ensures standing { joined.new.standing ≡ joined.old.standing }
-    ensures queues { joined.new.queues ≡ joined.old.queues }
     ensures room { OnOk result (HasRoomToNote replies joined.new) }
 {
     reserve_list(&mut joined.lists.down, replies)?;
@@ -59,14 +58,44 @@ fn push_all(down: &mut Vec<Told>, replies: Vec<Told>)
     }
 }
 
-/// A channel was created under this SID by the message at this place.
-pub fn begin_channel(joined: &mut Joined, sid: u32, place: usize) -> Result<(), AllocError>
-    ensures ok { OnOk result (joined_of joined.new ≡ with_creation sid place
-        (joined_of joined.old)) }
-    ensures err { OnErr result (joined_of joined.new ≡ joined_of joined.old) }
+/// Makes room for what a message of this command may begin on a circuit: a channel, or a
+/// subscription with its first number.
+pub fn reserve_begin(joined: &mut Joined, command: u16) -> Result<(), AllocError>
+    ensures same { joined_of joined.new ≡ joined_of joined.old }
+    ensures lists { joined.new.lists ≡ joined.old.lists }
+    ensures room { OnOk result (HasRoomToBegin command joined.new) }
 {
-    joined.creations.push(CreatedChannel { sid, place })?;
+    if command == Command::CreateChannel.number() {
+        return joined.creations.reserve(1);
+    }
+    if command == Command::EventAdd.number() {
+        joined.standing.reserve(1)?;
+        return reserve_first(&mut joined.queues);
+    }
     Ok(())
+}
+
+// Makes the memory of the first queue with room for a subscription, if there is one.
+fn reserve_first(queues: &mut Vec<ListQueue<(usize, Cause)>>) -> Result<(), AllocError>
+    ensures same { map (λ q. queue_of q.0) queues.new.items
+        ≡ map (λ q. queue_of q.0) queues.old.items }
+    ensures roomy { OnOk result (FirstIsRoomy queues.new.items) }
+{
+    let at = first_with_room(queues);
+    if at < queues.len() {
+        queues[at].reserve()?;
+    }
+    Ok(())
+}
+
+/// A channel was created under this SID by the message at this place. There is room for it.
+pub fn begin_channel(joined: &mut Joined, sid: u32, place: usize)
+    requires { HasRoomToCreate joined.old }
+    ensures { joined_of joined.new ≡ with_creation sid place (joined_of joined.old) }
+{
+    joined
+        .creations
+        .push_reserved(CreatedChannel { sid, place });
 }
 
 /// Events are turned on or off on a circuit.
@@ -87,21 +116,18 @@ fn switch_all(queues: &mut [ListQueue<(usize, Cause)>], on: bool)
 }
 
 /// A subscription, which no queue has, began by the message at this place: it stands, and its first
-/// number waits in the first queue with room.
-pub fn begin_standing(joined: &mut Joined, key: SubKey, place: usize) -> Result<(), AllocError>
-    requires { HasNone (map (λ q. queue_of q.0) joined.old.queues.items) key }
-    ensures ok { OnOk result (joined_of joined.new ≡ with_standing key place
-        (joined_of joined.old)) }
-    ensures err { OnErr result (joined_of joined.new ≡ joined_of joined.old) }
+/// number waits in the first queue with room. There is room for both.
+pub fn begin_standing(joined: &mut Joined, key: SubKey, place: usize)
+    requires new { HasNone (map (λ q. queue_of q.0) joined.old.queues.items) key }
+    requires room { HasRoomToSubscribe joined.old }
+    ensures { joined_of joined.new ≡ with_standing key place (joined_of joined.old) }
 {
-    joined.standing.reserve(1)?;
-    take_number(&mut joined.queues, key, place)?;
+    take_number(&mut joined.queues, key, place);
     joined.standing.push_reserved(AddedSubscription {
         key,
         place,
         posts: 1,
     });
-    Ok(())
 }
 
 /// A subscription is over: its numbers no longer wait.
@@ -131,26 +157,20 @@ pub fn end_channel(joined: &mut Joined, sid: u32)
     joined.creations.retain(|creation| creation.sid != sid);
 }
 
-// The first queue with room takes the subscription, and the number 0 of it.
-fn take_number(
-    queues: &mut Vec<ListQueue<(usize, Cause)>>,
-    key: SubKey,
-    place: usize,
-) -> Result<(), AllocError>
-    requires { HasNone (map (λ q. queue_of q.0) queues.old.items) key }
-    ensures ok { OnOk result (map (λ q. queue_of q.0) queues.new.items
+// The first queue with room takes the subscription, and the number 0 of it. It has its memory.
+fn take_number(queues: &mut Vec<ListQueue<(usize, Cause)>>, key: SubKey, place: usize)
+    requires new { HasNone (map (λ q. queue_of q.0) queues.old.items) key }
+    requires roomy { FirstIsRoomy queues.old.items }
+    ensures { map (λ q. queue_of q.0) queues.new.items
         ≡ world.number_taken
         key
         (place, history.Update 0)
-        (map (λ q. queue_of q.0) queues.old.items)) }
-    ensures err { OnErr result (map (λ q. queue_of q.0) queues.new.items
-        ≡ map (λ q. queue_of q.0) queues.old.items) }
+        (map (λ q. queue_of q.0) queues.old.items) }
 {
     let at = first_with_room(queues);
     if at < queues.len() {
-        begin_in(&mut queues[at], key, place)?;
+        begin_in(&mut queues[at], key, place);
     }
-    Ok(())
 }
 
 // The place of the first queue with room, or how many there are.
@@ -165,24 +185,16 @@ fn first_with_room(queues: &[ListQueue<(usize, Cause)>]) -> usize
     queues.len()
 }
 
-// The queue, which has room, takes the subscription, and the number 0 of it.
-fn begin_in(
-    queue: &mut ListQueue<(usize, Cause)>,
-    key: SubKey,
-    place: usize,
-) -> Result<(), AllocError>
+// The queue, which has room and its memory, takes the subscription, and the number 0 of it.
+fn begin_in(queue: &mut ListQueue<(usize, Cause)>, key: SubKey, place: usize)
     requires new { is_among key queue.old.0.subscriptions ≡ false }
     requires room { has_room queue.old ≡ true }
-    ensures ok { OnOk result (queue.new.0
-        ≡ posted key (place, cause.Update 0) (added key queue.old.0)) }
-    ensures err { OnErr result (queue.new.0 ≡ queue.old.0) }
+    requires roomy { IsTrue queue.old.1 }
+    ensures { queue.new.0 ≡ posted key (place, cause.Update 0) (added key queue.old.0) }
 {
     match queue.add(key) {
-        Ok(()) => {
-            queue.post(key, (place, Cause::Update(0)));
-            Ok(())
-        }
-        Err(_) => Err(AllocError),
+        Ok(()) => queue.post(key, (place, Cause::Update(0))),
+        Err(_) => unreachable!(),
     }
 }
 

@@ -1,4 +1,4 @@
-use Rattle.std.proofs.Common.{◌≡◌, ◌+◌, ◌-◌, ◌<◌, ℕ, suc, length, refl, sym, ap, ◌∙◌, subst, arith}
+use Rattle.std.proofs.Common.{◌-◌, ◌<◌, ℕ, length, refl, sym, subst, arith}
 use Rattle.std.proofs.lemmas.Bool.{ltb-true}
 use Rattle.ca_server_subscriptions.proofs.Receivers.{index-at}
 use Rattle.ca_server_subscriptions.proofs.Posts.{InOrderFrom, order-all, order-next, order-none}

@@ -1,6 +1,5 @@
-use Rattle.std.proofs.Common.{◌≡◌, ◌+◌, ◌<◌, ◌≤◌, length, sym, ap, ◌∙◌, subst, arith}
+use Rattle.std.proofs.Common.{◌≡◌, ◌+◌, length, ap, ◌∙◌, arith}
 use Rattle.ca_server_subscriptions.proofs.Posts.{copies-more, copies-none, length-snoc}
-use Rattle.ca_server_subscriptions.specs.Owing.{AreCopies}
 use Rattle.ca_server_subscriptions.proofs.waiting.copies_of.Goals as goal
 
 pub copying-init : goal.copying-init

@@ -1,4 +1,4 @@
-use Rattle.std.proofs.Common.{◌≡◌, ◌++◌, ◌∷◌, [], List, Bool, cond, length, drop, filter, map, sym, ap, ◌∙◌, subst, arith}
+use Rattle.std.proofs.Common.{◌≡◌, ◌++◌, ◌∷◌, [], List, Bool, cond, filter, map, ap, ◌∙◌}
 use Rattle.ca_server_subscriptions.proofs.Posts.{owes-all, owes-next}
 use Rattle.ca_server_subscriptions.proofs.Receivers.{index-at}
 use Rattle.ca_server_subscriptions.specs.ByRecord.{is_masked}

@@ -1,4 +1,4 @@
-use Rattle.std.proofs.Common.{◌≡◌, ◌+◌, ◌∷◌, [], ℕ, List, length, map, refl, sym, ap, ◌∙◌, subst, arith}
+use Rattle.std.proofs.Common.{◌≡◌, ◌∷◌, [], ℕ, List, length, map, refl, sym, ap, ◌∙◌, subst, arith}
 use Rattle.ca_text.specs.Place.{At}
 use Rattle.ca_queue.specs.Circuit.{HasAt, queue_posted}
 use Rattle.ca_queue.specs.Queue.{Queue}
@@ -6,7 +6,7 @@ use Rattle.ca_model.specs.Speech.{Stored}
 use Rattle.ca_server_subscriptions.proofs.Owing.{none-left}
 use Rattle.ca_server_subscriptions.proofs.Posts.{copies-less, has-rest, length-snoc}
 use Rattle.ca_server_subscriptions.specs.declared.waiting.Addressee.{Addressee}
-use Rattle.ca_server_subscriptions.specs.Owing.{AreCopies, with_owed}
+use Rattle.ca_server_subscriptions.specs.Owing.{with_owed}
 use Rattle.ca_server_subscriptions.proofs.waiting.put_all.Goals as goal
 
 pub putting-init : goal.putting-init

@@ -1,55 +1,61 @@
-use Rattle.std.proofs.Common.{◌≡◌, ℕ, ◌+◌, ◌-◌, ◌<◌, ◌≤◌, ◌++◌, List, [], ◌∷◌, length, drop, map, take, sym, ap, subst, ◌∙◌, arith}
-use Rattle.std.proofs.lemmas.List.{length-drop, map-append, take_all}
-use Rattle.ca_wire.proofs.Messages.{spelling-long}
-use Rattle.ca_world_data.specs.declared.history.Cause.TheVariants.{Reply}
-use Rattle.ca_world_data.specs.declared.history.Told.{Told}
-use Rattle.ca_world_data.specs.Replies.{RepliesSome}
+use Rattle.std.proofs.Common.{◌≡◌, ◌∙◌, ◌<◌, ◌≤◌, ℕ, List, [], ◌∷◌, ◌++◌, length, map, false, sym, ap, subst, arith}
+use Rattle.std.specs.Prelude.{◌==◌, vec_capacity}
+use Rattle.std.proofs.lemmas.Bool.{eqb-true}
+use Rattle.ca_wire.specs.Fields.{Fields}
+use Rattle.ca_wire.specs.Front.{FrontFits}
+use Rattle.ca_model.specs.History.{Reply}
+use Rattle.ca_model.specs.ServerEvents.{about}
+use Rattle.ca_world_data.specs.declared.history.Cause.TheVariants as cause
 use Rattle.ca_world_data.specs.Seen.{told_of}
-use Rattle.ca_world_data.specs.Updates.{BeginsSpelled, ReadsFirst}
-use Rattle.ca_world_data.proofs.RepliesRead.{replies-all, replies-more, replies-next, replies-within}
+use Rattle.ca_world_data.proofs.RepliesWithin.{first-fits, none-spelled, one-told, rest-is, second-fits, two-told}
 use Rattle.ca_world_data.proofs.replies.replies_in.Goals as goal
 
--- the slice from a place on
-rest-is : (bytes : List ℕ) (n : ℕ) → take (length bytes - n) (drop n bytes) ≡ drop n bytes
-rest-is bytes n = (let len = length-drop n bytes in take_all (length bytes - n) (drop n bytes) (omega (arith, len)))
+-- where bytes are there is one
+some-there : (bytes : List ℕ) → (length bytes == 0) ≡ false → 0 < length bytes
+some-there [] none = absurd cc
+some-there (b ∷ bytes) none = omega arith
 
-pub message_again-requires : goal.message_again-requires
-message_again-requires c =
+some-bytes : (bytes : List ℕ) → 0 < length bytes → bytes ≡ [] → ⊥
+some-bytes bytes some none = (let empty : length bytes ≡ 0 = ap (λ (l : List ℕ). length l) none in omega (arith, some, empty))
+
+pub returns-then-is_empty-clause-all : goal.returns-then-is_empty-clause-all
+returns-then-is_empty-clause-all c ms good are within =
     let bytes : List ℕ = c.args.bytes.now in
-    let lt : c.reading.read < length bytes = omega (arith, c.reading-test.true) in
-    subst BeginsSpelled (sym (rest-is bytes c.reading.read))
-    (replies-next c.requires.ms bytes c.args.place c.reading.read (map told_of c.reading.all.items) c.requires.good c.requires.are (c.reading.invariant.told c.requires.ms c.requires.good c.requires.are) lt)
+    let empty : length bytes ≡ 0 = eqb-true (length bytes) 0 (sym c.is_empty.ensures ∙ c.if-is_empty.true) in
+    ap (map told_of) c.requires.spare.none ∙ ap (about c.args.place Reply) (sym (none-spelled ms (sym (ap (λ (l : List ℕ). length l) are) ∙ empty)))
 
-pub overflow_add-read : goal.overflow_add-read
-overflow_add-read c =
+pub message_at-message-requires-clause-front : goal.message_at-message-requires-clause-front
+message_at-message-requires-clause-front c =
     let bytes : List ℕ = c.args.bytes.now in
-    let lt : c.reading.read < length bytes = omega (arith, c.reading-test.true) in
-    let first : ReadsFirst (drop c.reading.read bytes) c.in_ok-message.message = λ m rest good begins. c.in_ok-message.ensures m rest good (rest-is bytes c.reading.read ∙ begins) in
-    let more = replies-more c.requires.ms bytes c.args.place c.reading.read c.spelled_size-read.result (map told_of c.reading.all.items) c.in_ok-message.message c.requires.good c.requires.are (c.reading.invariant.told c.requires.ms c.requires.good c.requires.are) lt first c.spelled_size-read.ensures in
-    let within : c.reading.read + c.spelled_size-read.result ≤ length bytes = replies-within c.requires.ms bytes c.args.place (c.reading.read + c.spelled_size-read.result) _ c.requires.are more in
-    omega (arith, within)
+    first-fits _ bytes c.requires.few (some-bytes bytes (some-there bytes (sym c.is_empty.ensures ∙ c.if-is_empty.false)))
 
-pub reading-smaller : goal.reading-smaller
-reading-smaller c =
+pub message_at-message-requires-then-read-bytes-clause-front : goal.message_at-message-requires-then-read-bytes-clause-front
+message_at-message-requires-then-read-bytes-clause-front c =
     let bytes : List ℕ = c.args.bytes.now in
-    let lt : c.reading.read < length bytes = omega (arith, c.reading-test.true) in
-    let long = spelling-long c.in_ok-message.message in
-    omega (arith, lt, long, c.spelled_size-read.ensures)
+    let lt : c.spelled_size-read.result < length bytes = omega (arith, c.if-read-bytes.true) in
+    subst (λ (b : List ℕ × ℕ). FrontFits b.0 b.1) (λ i. (sym (rest-is bytes c.spelled_size-read.result) i, sym c.new.ensures.capacity i))
+    (second-fits _ bytes c.requires.few c.spelled_size-read.result c.message_at-message.result c.message_at-message.ensures c.spelled_size-read.ensures lt)
 
-pub reading-preserved : goal.reading-preserved
-reading-preserved c =
+pub returns-then-read-bytes-clause-all : goal.returns-then-read-bytes-clause-all
+returns-then-read-bytes-clause-all c ms good are within =
     let bytes : List ℕ = c.args.bytes.now in
-    let lt : c.reading.read < length bytes = omega (arith, c.reading-test.true) in
-    let first : ReadsFirst (drop c.reading.read bytes) c.in_ok-message.message = λ m rest good begins. c.in_ok-message.ensures m rest good (rest-is bytes c.reading.read ∙ begins) in
-    let one : Told = record { message = c.in_ok-message.message; place = c.args.place; cause = Reply } in
-    let said : map told_of c.push.new.self.items ≡ map told_of c.reading.all.items ++ told_of one ∷ [] = ap (map told_of) c.in_ok-push.ensures.items ∙ map-append told_of c.reading.all.items (one ∷ []) in
-    record {
-      told = λ ms good are.
-          subst (RepliesSome ms c.args.place (c.reading.read + c.spelled_size-read.result)) (sym said)
-          (replies-more ms bytes c.args.place c.reading.read c.spelled_size-read.result (map told_of c.reading.all.items) c.in_ok-message.message good are (c.reading.invariant.told ms good are) lt first c.spelled_size-read.ensures);
-    }
+    let read : ℕ = c.spelled_size-read.result in
+    let lt : read < length bytes = omega (arith, c.if-read-bytes.true) in
+    let first : Fields = c.message_at-message.result in
+    let second : Fields = c.message_at-message-then-read-bytes.result in
+    let two : ms ≡ first ∷ second ∷ [] =
+    two-told _ bytes read first c.message_at-message.ensures c.spelled_size-read.ensures second
+    (λ m rest fine begins. c.message_at-message-then-read-bytes.ensures m rest fine (rest-is bytes read ∙ begins)) ms good are within lt in
+    ap (map told_of) (c.push_reserved-then-read-bytes.ensures.items ∙ ap (λ t. t ++ record { message = second; place = c.args.place; cause = cause.Reply } ∷ []) (c.push_reserved.ensures.items ∙ ap (λ t. t ++ record { message = first; place = c.args.place; cause = cause.Reply } ∷ []) c.requires.spare.none))
+    ∙ ap (about c.args.place Reply) (sym two)
 
-pub returns : goal.returns
-returns c ms good are =
-    let over : length c.args.bytes.now ≤ c.reading.read = omega (arith, c.reading-test.false) in
-    replies-all ms c.args.bytes.now c.args.place c.reading.read (map told_of c.reading.all.items) are (c.reading.invariant.told ms good are) over
+pub returns-else-read-bytes-clause-all : goal.returns-else-read-bytes-clause-all
+returns-else-read-bytes-clause-all c ms good are within =
+    let bytes : List ℕ = c.args.bytes.now in
+    let read : ℕ = c.spelled_size-read.result in
+    let over : length bytes ≤ read = omega (arith, c.if-read-bytes.false) in
+    let some : 0 < length bytes = some-there bytes (sym c.is_empty.ensures ∙ c.if-is_empty.false) in
+    let first : Fields = c.message_at-message.result in
+    let one : ms ≡ first ∷ [] = one-told (vec_capacity c.args.spare.payload) bytes read first c.message_at-message.ensures c.spelled_size-read.ensures ms good are some over in
+    ap (map told_of) (c.push_reserved.ensures.items ∙ ap (λ t. t ++ record { message = first; place = c.args.place; cause = cause.Reply } ∷ []) c.requires.spare.none)
+    ∙ ap (about c.args.place Reply) (sym one)

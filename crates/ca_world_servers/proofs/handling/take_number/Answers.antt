@@ -1,15 +1,14 @@
-use Rattle.std.proofs.Common.{◌≡◌, map, ℕ, ◌<◌, ◌≤◌, Bool, List, length, refl, sym, ap, subst, ◌∙◌, arith}
+use Rattle.std.proofs.Common.{◌≡◌, map, ℕ, ◌<◌, ◌≤◌, Bool, List, length, sym, ap, subst, ◌∙◌, arith}
 use Rattle.std.specs.Prelude.{slice_set}
 use Rattle.ca_queue.specs.Queue.{Queue}
 use Rattle.ca_text.specs.Place.{At}
 use Rattle.ca_model.specs.History as history
 use Rattle.ca_model.specs.ClientEvents.{place_of}
 use Rattle.ca_world_data.specs.declared.history.Cause.{Cause}
-use Rattle.ca_world_data.specs.Seen.{queue_of}
 use Rattle.ca_world_data.proofs.Counting.{queue_in}
 use Rattle.ca_world_data.proofs.Worlds.{found}
 use Rattle.ca_world_servers.specs.Handling.{has_room}
-use Rattle.ca_world_servers.proofs.Handled.{begun-images, first-takes, none-has, none-takes, on-err, room-there, same-next}
+use Rattle.ca_world_servers.proofs.Handled.{begun-images, first-takes, none-has, none-takes, room-there}
 use Rattle.ca_world_servers.proofs.handling.take_number.Goals as goal
 
 pub begin_in-requires-clause-new : goal.begin_in-requires-clause-new
@@ -21,7 +20,7 @@ begin_in-requires-clause-new c =
     let within : n < length ws = omega (arith, c.if-at-len.true, c.len.ensures, c.args.queues.now.ok) in
     let at : At ws n w = found ws n w w within c.index_mut.ensures.value in
     let first : At ws (place_of has_room ws) w = subst (λ (k : ℕ). At ws k w) is at in
-    none-has ws n w c.args.key c.requires at
+    none-has ws n w c.args.key c.requires.new at
 
 pub begin_in-requires-clause-room : goal.begin_in-requires-clause-room
 begin_in-requires-clause-room c =
@@ -34,19 +33,18 @@ begin_in-requires-clause-room c =
     let first : At ws (place_of has_room ws) w = subst (λ (k : ℕ). At ws k w) is at in
     room-there ws w first
 
-pub returns-in_err-begin_in-clause-err : goal.returns-in_err-begin_in-clause-err
-returns-in_err-begin_in-clause-err c =
+pub begin_in-requires-clause-roomy : goal.begin_in-requires-clause-roomy
+begin_in-requires-clause-roomy c =
     let ws : List (Queue (ℕ × Cause) × Bool) = c.args.queues.now.items in
     let n : ℕ = c.first_with_room-at.result in
     let w : Queue (ℕ × Cause) × Bool = c.index_mut.result.now in
     let is : n ≡ place_of has_room ws = c.first_with_room-at.ensures ∙ ap (place_of has_room) c.deref.ensures.value in
     let within : n < length ws = omega (arith, c.if-at-len.true, c.len.ensures, c.args.queues.now.ok) in
     let at : At ws n w = found ws n w w within c.index_mut.ensures.value in
-    let first : At ws (place_of has_room ws) w = subst (λ (k : ℕ). At ws k w) is at in
-    on-err _ (same-next queue_in n ws w w c.begin_in.new.queue at refl (ap queue_of c.in_err-begin_in.ensures.err))
+    c.requires.roomy w (subst (λ (k : ℕ). At ws k w) is at)
 
-pub returns-in_ok-begin_in-clause-ok : goal.returns-in_ok-begin_in-clause-ok
-returns-in_ok-begin_in-clause-ok c =
+pub returns-then-at-len : goal.returns-then-at-len
+returns-then-at-len c =
     let ws : List (Queue (ℕ × Cause) × Bool) = c.args.queues.now.items in
     let n : ℕ = c.first_with_room-at.result in
     let w : Queue (ℕ × Cause) × Bool = c.index_mut.result.now in
@@ -55,10 +53,10 @@ returns-in_ok-begin_in-clause-ok c =
     let at : At ws n w = found ws n w w within c.index_mut.ensures.value in
     let first : At ws (place_of has_room ws) w = subst (λ (k : ℕ). At ws k w) is at in
     let new : Queue (ℕ × Cause) × Bool = c.begin_in.new.queue in
-    ap (λ (k : ℕ). map queue_in (slice_set ws k new)) is ∙ (first-takes c.args.key (c.args.place, history.Update 0) ws w new first (begun-images c.args.key c.args.place w.0 new.0 c.in_ok-begin_in.ensures.ok))
+    ap (λ (k : ℕ). map queue_in (slice_set ws k new)) is ∙ (first-takes c.args.key (c.args.place, history.Update 0) ws w new first (begun-images c.args.key c.args.place w.0 new.0 c.begin_in.ensures))
 
-pub returns-else-at-len-clause-ok : goal.returns-else-at-len-clause-ok
-returns-else-at-len-clause-ok c =
+pub returns-else-at-len : goal.returns-else-at-len
+returns-else-at-len c =
     let ws : List (Queue (ℕ × Cause) × Bool) = c.args.queues.now.items in
     let n : ℕ = c.first_with_room-at.result in
     let is : n ≡ place_of has_room ws = c.first_with_room-at.ensures ∙ ap (place_of has_room) c.deref.ensures.value in

@@ -28,13 +28,13 @@ returns-in_err-hand_left-in-Closed-clause-comes g c = λ rules states.
     let hands = subst (λ (n : ℕ). Hands g.K.Sink.takes g.K.Sink.fault_count c.args.sink.now (take n c.in-Closed.left) c.hand_left.new.sink c.hand_left.new.turns (Err e)) same c.in_err-hand_left-in-Closed.ensures.hands in
     subst (λ (r : Result Bool Refusal). Comes g.K.Sink.takes g.K.Sink.fault_count rules states c.args.sink.now c.hand_left.new.sink c.args.self.now c.serve_next.new.self c.hand_left.new.turns r)
     (sym (same-error c.from_residual-in_err-hand_left-in-Closed.result e c.from_residual-in_err-hand_left-in-Closed.ensures.1))
-    (comes-left g.K.Sink.takes g.K.Sink.fault_count rules states c.args.sink.now c.hand_left.new.sink c.args.self.now c.serve_next.new.self c.serve_next.new.self.core (why_is c.in-Closed.cause) c.in-Closed.left c.hand_left.new.turns e c.in-Closed.ensures.served.0 hands)
+    (comes-left g.K.Sink.takes g.K.Sink.fault_count rules states c.args.sink.now c.hand_left.new.sink c.args.self.now c.serve_next.new.self c.serve_next.new.self.core (why_is c.in-Closed.cause) c.in-Closed.left c.hand_left.new.turns e c.in-Closed.ensures.served hands)
 
 pub returns-in_err-flush-in-NeedBytes-clause-comes : goal.returns-in_err-flush-in-NeedBytes-clause-comes
 returns-in_err-flush-in-NeedBytes-clause-comes g c = λ rules states.
     subst (λ (r : Result Bool Refusal). Comes g.K.Sink.takes g.K.Sink.fault_count rules states c.args.sink.now c.flush.new.sink c.args.self.now c.flush.new.self c.flush.new.turns r)
     (sym (same-error c.from_residual-in_err-flush-in-NeedBytes.result c.in_err-flush-in-NeedBytes.field-0.0 c.from_residual-in_err-flush-in-NeedBytes.ensures.1))
-    (comes-stopped g.K.Sink.takes g.K.Sink.fault_count rules states c.args.sink.now c.flush.new.sink c.args.self.now c.serve_next.new.self c.flush.new.self c.serve_next.new.self.core c.flush.new.turns c.in_err-flush-in-NeedBytes.field-0.0 c.in-NeedBytes.ensures.served.0 c.serve_next.ensures.stays c.in_err-flush-in-NeedBytes.ensures.hands)
+    (comes-stopped g.K.Sink.takes g.K.Sink.fault_count rules states c.args.sink.now c.flush.new.sink c.args.self.now c.serve_next.new.self c.flush.new.self c.serve_next.new.self.core c.flush.new.turns c.in_err-flush-in-NeedBytes.field-0.0 c.in-NeedBytes.ensures.served c.serve_next.ensures.stays c.in_err-flush-in-NeedBytes.ensures.hands)
 
 pub returns-in_ok-keep-in-Handled-clause-comes : goal.returns-in_ok-keep-in-Handled-clause-comes
 returns-in_ok-keep-in-Handled-clause-comes g c = λ rules states.
@@ -63,9 +63,9 @@ returns-in_ok-hand_left-in-Closed-clause-comes g c = λ rules states.
     let hands = c.in_ok-hand_left-in-Closed.ensures.hands in
     let goes = subst (λ (n : ℕ). Goes g.K.Sink.takes c.args.sink.now (take n c.in-Closed.left) c.hand_left.new.sink) same hands.1 in
     subst (λ (e : Refusal). Comes g.K.Sink.takes g.K.Sink.fault_count rules states c.args.sink.now c.hand_left.new.sink c.args.self.now c.serve_next.new.self c.hand_left.new.turns (Err e)) (sym c.refusal_of.ensures)
-    (closes-comes g.K.Sink.takes g.K.Sink.fault_count rules states c.args.sink.now c.hand_left.new.sink c.args.self.now c.serve_next.new.self c.serve_next.new.self.core c.in-Closed.left goes (why_is c.in-Closed.cause) c.hand_left.new.turns hands.0 c.in-Closed.ensures.served.0)
+    (closes-comes g.K.Sink.takes g.K.Sink.fault_count rules states c.args.sink.now c.hand_left.new.sink c.args.self.now c.serve_next.new.self c.serve_next.new.self.core c.in-Closed.left goes (why_is c.in-Closed.cause) c.hand_left.new.turns hands.0 c.in-Closed.ensures.served)
 
 pub returns-in_ok-flush-in-NeedBytes-clause-comes : goal.returns-in_ok-flush-in-NeedBytes-clause-comes
 returns-in_ok-flush-in-NeedBytes-clause-comes g c = λ rules states.
     let hands = c.in_ok-flush-in-NeedBytes.ensures.hands in
-    (hands.0, rests g.K.Sink.takes g.K.Sink.fault_count rules states c.args.sink.now c.flush.new.sink c.args.self.now c.serve_next.new.self c.flush.new.self c.serve_next.new.self.core c.in-NeedBytes.ensures.served.0 c.serve_next.ensures.stays hands.1 c.in_ok-flush-in-NeedBytes.ensures.sent)
+    (hands.0, rests g.K.Sink.takes g.K.Sink.fault_count rules states c.args.sink.now c.flush.new.sink c.args.self.now c.serve_next.new.self c.flush.new.self c.serve_next.new.self.core c.in-NeedBytes.ensures.served c.serve_next.ensures.stays hands.1 c.in_ok-flush-in-NeedBytes.ensures.sent)

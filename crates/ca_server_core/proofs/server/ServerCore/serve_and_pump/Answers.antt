@@ -6,13 +6,13 @@ use Rattle.ca_model.specs.ServerSteps as steps
 use Rattle.ca_records.specs.Store.{Store, records_of}
 use Rattle.ca_server_core.proofs.Covered.{covers-thinned}
 use Rattle.ca_server_core.proofs.Effects.{quiet-none}
-use Rattle.ca_server_core.proofs.Followed.{broke-thins, made-followed, made-followed-by, none-thins, settled-sound, settled-thins, step-covers, step-led}
+use Rattle.ca_server_core.proofs.Followed.{broke-thins, made-followed-by, none-thins, settled-sound, settled-thins, step-covers, step-led, viewed-followed}
 use Rattle.ca_server_core.proofs.Led.{led-thinned}
 use Rattle.ca_server_core.proofs.Listed.{listed-broke, listed-none, listed-pumped, listed-step}
 use Rattle.ca_server_core.proofs.Noted.{broke-closes, none-closes, not-handled, noting-none, viewed-quiet, viewed-served}
 use Rattle.ca_server_core.proofs.Pumped.{pumps-at, sound-pumped}
 use Rattle.ca_server_core.proofs.Servers.{server_of}
-use Rattle.ca_server_core.proofs.Stepped.{broke-sound, full-same, handled-settles, idle-same, made-broke, made-none, none-sound, step-sound, still-sound}
+use Rattle.ca_server_core.proofs.Stepped.{broke-sound, full-same, handled-settles, idle-same, none-sound, step-sound, still-sound, viewed-broke, viewed-none}
 use Rattle.ca_server_core.proofs.Thinned.{thins-pumped}
 use Rattle.ca_server_circuit.specs.declared.step.FollowUp.TheVariants.{Quiet}
 use Rattle.ca_server_core.specs.Covering.{AreLed, AreListed, Covers}
@@ -150,7 +150,7 @@ returns-clause-serves c =
     let did = (rw c.in-Some-Handled.field-0-is at c.in-Some-Handled.ensures.steps) (sym c.is_quiet.ensures ∙ c.if-is_quiet.false) in
     let e = c.follow_and_pump.ensures.ends c.if-follow_and_pump.false in
     let long = c.in-Some-Handled.ensures.waited ∙ ap (λ (z : Server). length (output_of (under z.circuits c.args.circuit))) c.self.view_is in
-    let made = made-followed c.args.self.now i.port i.moment i.applied f.applied _ i.beacons i.records u.records f.records i.circuits u.circuits f.circuits c.over.new.circuits c.args.circuit c.in-Some-Handled.effect (is_wrote c.in-Some-Handled.effect) c.over.result c.self.view_is refl e.counts long did e.follows c.follow_and_pump.ensures.server.sound c.over.ensures.settles in
+    let made = viewed-followed c.args.self.now i.port i.moment i.applied f.applied _ i.beacons i.records u.records f.records i.circuits u.circuits f.circuits c.over.new.circuits c.args.circuit c.in-Some-Handled.effect (is_wrote c.in-Some-Handled.effect) c.over.result c.self.view_is refl e.counts long did e.follows c.follow_and_pump.ensures.server.sound c.over.ensures.settles in
     noting-none c.args.self.now c.args.circuit (stepped c.over.result) c.args.waiting.now (server_of i.port f.records i.moment c.over.new.circuits i.beacons f.applied)
     (not-handled (stepped c.over.result) c.over.ensures.closed) made
 
@@ -181,14 +181,14 @@ returns-in-Some-Breaks-clause-serves c =
     let did = (rw c.in-Some-Breaks.field-0-is at c.in-Some-Breaks.ensures.steps) refl in
     noting-none c.args.self.now c.args.circuit (stepped c.report.result) c.args.waiting.now (server_of i.port c.step_counting_on.new.records i.moment c.report.new.circuits i.beacons i.applied)
     (broke-closes i.port i.records c.step_counting_on.new.records i.circuits c.step_counting_on.new.circuits c.report.new.circuits c.args.circuit c.in-Some-Breaks.field-0-0 c.report.result did c.report.ensures)
-    (made-broke c.args.self.now i.port i.moment i.applied i.beacons i.records c.step_counting_on.new.records i.circuits c.step_counting_on.new.circuits c.report.new.circuits c.args.circuit c.in-Some-Breaks.field-0-0 c.report.result c.self.view_is did c.report.ensures c.self.invariant.sound)
+    (viewed-broke c.args.self.now i.port i.moment i.applied i.beacons i.records c.step_counting_on.new.records i.circuits c.step_counting_on.new.circuits c.report.new.circuits c.args.circuit c.in-Some-Breaks.field-0-0 c.report.result c.self.view_is did c.report.ensures c.self.invariant.sound)
 
 pub returns-in-None-clause-serves : goal.returns-in-None-clause-serves
 returns-in-None-clause-serves c =
     let i = c.self.inside in
     noting-none c.args.self.now c.args.circuit (stepped c.report-in-None.result) c.args.waiting.now (server_of i.port c.step_counting_on.new.records i.moment c.report-in-None.new.circuits i.beacons i.applied)
     (none-closes i.port i.records c.step_counting_on.new.records i.circuits c.step_counting_on.new.circuits c.report-in-None.new.circuits c.args.circuit c.report-in-None.result (c.in-None.ensures.steps refl) c.report-in-None.ensures)
-    (made-none c.args.self.now i.port i.moment i.applied i.beacons i.records c.step_counting_on.new.records i.circuits c.step_counting_on.new.circuits c.report-in-None.new.circuits c.args.circuit c.report-in-None.result c.self.view_is (c.in-None.ensures.steps refl) c.report-in-None.ensures c.self.invariant.sound)
+    (viewed-none c.args.self.now i.port i.moment i.applied i.beacons i.records c.step_counting_on.new.records i.circuits c.step_counting_on.new.circuits c.report-in-None.new.circuits c.args.circuit c.report-in-None.result c.self.view_is (c.in-None.ensures.steps refl) c.report-in-None.ensures c.self.invariant.sound)
 
 pub returns-clause-quiet : goal.returns-clause-quiet
 returns-clause-quiet c = λ e is.

@@ -7,7 +7,7 @@ use Rattle.ca_model.specs.ServerSteps.{output_of}
 use Rattle.ca_records.specs.Store.{records_of}
 use Rattle.ca_server_core.proofs.Covered.{covers-thinned}
 use Rattle.ca_server_core.proofs.Effects.{told-as, tells-by, tells-none}
-use Rattle.ca_server_core.proofs.Followed.{broke-thins, made-followed, made-followed-by, none-thins, settled-sound, settled-thins, step-covers, step-led, viewed-followed}
+use Rattle.ca_server_core.proofs.Followed.{broke-thins, made-followed-by, none-thins, settled-sound, settled-thins, step-covers, step-led, viewed-followed}
 use Rattle.ca_server_core.proofs.Led.{led-thinned}
 use Rattle.ca_server_core.proofs.Noted.{broke-closes, none-closes}
 use Rattle.ca_server_core.proofs.Listed.{listed-broke, listed-none, listed-step}
@@ -15,7 +15,7 @@ use Rattle.ca_server_core.proofs.Served.{quiet-is}
 use Rattle.ca_server_circuit.specs.Circuits.{is_open}
 use Rattle.ca_server_circuit.specs.Effects.{effect_due}
 use Rattle.ca_server_circuit.specs.Handling.{effect_of}
-use Rattle.ca_server_core.proofs.Stepped.{broke-sound, handled-open, handled-settles, made-broke, made-none, none-sound, step-sound, viewed-broke, viewed-none}
+use Rattle.ca_server_core.proofs.Stepped.{broke-sound, handled-open, handled-settles, none-sound, step-sound, viewed-broke, viewed-none}
 use Rattle.ca_server_circuit.specs.declared.step.FollowUp.TheVariants.{Quiet}
 use Rattle.ca_server_circuit.specs.declared.effect.Effect.TheVariants as told
 use Rattle.ca_server_core.specs.declared.stepping.CoreStep.TheVariants as own
@@ -43,17 +43,6 @@ returns-then-is_quiet-clause-steps c =
     let sound = step-sound i.port i.records u.records i.circuits u.circuits c.args.circuit (Quiet quiet.0) did c.self.invariant.sound in
     let settles = handled-settles i.port i.records u.records i.circuits u.circuits c.args.circuit (Quiet quiet.0) _ did in
     viewed-followed c.args.self.now i.port i.moment i.applied i.applied _ i.beacons i.records u.records u.records i.circuits u.circuits u.circuits u.circuits c.args.circuit (Quiet quiet.0) false (own.Handled told.Quiet) c.self.view_is refl refl long did (refl, refl) sound settles
-
-pub returns-then-is_quiet-clause-closes : goal.returns-then-is_quiet-clause-closes
-returns-then-is_quiet-clause-closes c =
-    let i = c.self.inside in
-    let u = c.step_on.new in
-    let quiet = quiet-is c.in-Some-Handled.left (sym c.is_quiet.ensures ∙ c.if-is_quiet.true) in
-    let did = rw quiet.1 at (rw c.in-Some-Handled.field-0-is at c.in-Some-Handled.ensures.steps) in
-    let long = c.in-Some-Handled.ensures.waited ∙ ap (λ (z : Server). length (output_of (under z.circuits c.args.circuit))) c.self.view_is in
-    let sound = step-sound i.port i.records u.records i.circuits u.circuits c.args.circuit (Quiet quiet.0) did c.self.invariant.sound in
-    let settles = handled-settles i.port i.records u.records i.circuits u.circuits c.args.circuit (Quiet quiet.0) _ did in
-    (made-followed c.args.self.now i.port i.moment i.applied i.applied _ i.beacons i.records u.records u.records i.circuits u.circuits u.circuits u.circuits c.args.circuit (Quiet quiet.0) false (own.Handled told.Quiet) c.self.view_is refl refl long did (refl, refl) sound settles).1
 
 pub follow-may_have_ended-requires-clause-sound : goal.follow-may_have_ended-requires-clause-sound
 follow-may_have_ended-requires-clause-sound c =
@@ -127,35 +116,16 @@ returns-else-is_quiet-clause-steps c =
     let long = c.in-Some-Handled.ensures.waited ∙ ap (λ (z : Server). length (output_of (under z.circuits c.args.circuit))) c.self.view_is in
     viewed-followed c.args.self.now i.port i.moment i.applied c.more_applied-self-inside.result _ i.beacons i.records c.step_on.new.records f.records i.circuits c.step_on.new.circuits f.circuits c.settle.new.circuits c.args.circuit c.in-Some-Handled.left c.is_write.result c.settle.result c.self.view_is c.is_write.ensures c.more_applied-self-inside.ensures long did c.follow-may_have_ended.ensures.follows c.follow-may_have_ended.ensures.sound c.settle.ensures.settles
 
-pub returns-else-is_quiet-clause-closes : goal.returns-else-is_quiet-clause-closes
-returns-else-is_quiet-clause-closes c =
-    let i = c.self.inside in
-    let did = rw c.in-Some-Handled.field-0-is at c.in-Some-Handled.ensures.steps in
-    let f = c.follow-may_have_ended.new in
-    let long = c.in-Some-Handled.ensures.waited ∙ ap (λ (z : Server). length (output_of (under z.circuits c.args.circuit))) c.self.view_is in
-    (made-followed c.args.self.now i.port i.moment i.applied c.more_applied-self-inside.result _ i.beacons i.records c.step_on.new.records f.records i.circuits c.step_on.new.circuits f.circuits c.settle.new.circuits c.args.circuit c.in-Some-Handled.left c.is_write.result c.settle.result c.self.view_is c.is_write.ensures c.more_applied-self-inside.ensures long did c.follow-may_have_ended.ensures.follows c.follow-may_have_ended.ensures.sound c.settle.ensures.settles).1
-
 pub returns-in-Some-Breaks-clause-steps : goal.returns-in-Some-Breaks-clause-steps
 returns-in-Some-Breaks-clause-steps c =
     let i = c.self.inside in
     let did = rw c.in-Some-Breaks.field-0-is at c.in-Some-Breaks.ensures.steps in
     viewed-broke c.args.self.now i.port i.moment i.applied i.beacons i.records c.step_on.new.records i.circuits c.step_on.new.circuits c.report.new.circuits c.args.circuit c.in-Some-Breaks.field-0-0 c.report.result c.self.view_is did c.report.ensures c.self.invariant.sound
 
-pub returns-in-Some-Breaks-clause-closes : goal.returns-in-Some-Breaks-clause-closes
-returns-in-Some-Breaks-clause-closes c =
-    let i = c.self.inside in
-    let did = rw c.in-Some-Breaks.field-0-is at c.in-Some-Breaks.ensures.steps in
-    (made-broke c.args.self.now i.port i.moment i.applied i.beacons i.records c.step_on.new.records i.circuits c.step_on.new.circuits c.report.new.circuits c.args.circuit c.in-Some-Breaks.field-0-0 c.report.result c.self.view_is did c.report.ensures c.self.invariant.sound).1
-
 pub returns-in-None-clause-steps : goal.returns-in-None-clause-steps
 returns-in-None-clause-steps c =
     let i = c.self.inside in
     viewed-none c.args.self.now i.port i.moment i.applied i.beacons i.records c.step_on.new.records i.circuits c.step_on.new.circuits c.report-in-None.new.circuits c.args.circuit c.report-in-None.result c.self.view_is c.in-None.ensures.steps c.report-in-None.ensures c.self.invariant.sound
-
-pub returns-in-None-clause-closes : goal.returns-in-None-clause-closes
-returns-in-None-clause-closes c =
-    let i = c.self.inside in
-    (made-none c.args.self.now i.port i.moment i.applied i.beacons i.records c.step_on.new.records i.circuits c.step_on.new.circuits c.report-in-None.new.circuits c.args.circuit c.report-in-None.result c.self.view_is c.in-None.ensures.steps c.report-in-None.ensures c.self.invariant.sound).1
 
 pub returns-then-is_quiet-clause-tells : goal.returns-then-is_quiet-clause-tells
 returns-then-is_quiet-clause-tells c =

@@ -1,8 +1,8 @@
-use Rattle.std.proofs.Common.{◌≡◌, List, false, sym, ap, ◌∙◌, subst}
+use Rattle.std.proofs.Common.{List, false, sym, subst}
 use Rattle.ca_queue.specs.Queue.{Queue}
 use Rattle.ca_model.specs.Speech.{Stored}
 use Rattle.ca_server_subscriptions.specs.Owing.{AreSwitched}
-use Rattle.ca_server_subscriptions.proofs.Owing.{may-begin, none-owed, on-began, on-owed}
+use Rattle.ca_server_subscriptions.proofs.Owing.{none-owed, on-began, on-owed}
 use Rattle.ca_server_subscriptions.proofs.waiting.Waiting.begin.Goals as goal
 
 pub invariant_of-self-2 : goal.invariant_of-self-2

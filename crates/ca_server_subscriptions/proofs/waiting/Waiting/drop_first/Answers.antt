@@ -1,11 +1,7 @@
-use Rattle.std.proofs.Common.{◌≡◌, [], List, None, false, length, sym, ap, ◌∙◌, subst, arith}
+use Rattle.std.proofs.Common.{None, false, sym, ◌∙◌}
 use Rattle.std.proofs.lemmas.Bool.{both_ways, eq-eqb, eqb-true}
-use Rattle.ca_queue.specs.Queue.{Queue}
-use Rattle.ca_model.specs.Speech.{Stored}
 use Rattle.ca_server_subscriptions.proofs.Changes.{off-takes}
-use Rattle.ca_server_subscriptions.proofs.Owing.{front-loses, front-rest, none-left, none-owed, on-taken, owed-len, view-none}
-use Rattle.ca_server_subscriptions.specs.declared.waiting.Addressee.{Addressee}
-use Rattle.ca_server_subscriptions.specs.Owing.{LosesNext}
+use Rattle.ca_server_subscriptions.proofs.Owing.{front-loses, front-rest, none-left, none-owed, on-taken, owed-len}
 use Rattle.ca_server_subscriptions.proofs.waiting.Waiting.drop_first.Goals as goal
 
 pub invariant_of-self : goal.invariant_of-self

@@ -1,4 +1,4 @@
-use Rattle.std.proofs.Common.{◌≡◌, ◌∙◌, List, [], filter, map, sym, ap, subst}
+use Rattle.std.proofs.Common.{◌≡◌, ◌∙◌, List, filter, map, sym, ap, subst}
 use Rattle.std.specs.List.{fold}
 use Rattle.ca_dbr.specs.Elements.{elements}
 use Rattle.ca_model.specs.Speech.{Stored}

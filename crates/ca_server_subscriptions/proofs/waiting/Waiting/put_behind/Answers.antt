@@ -1,4 +1,4 @@
-use Rattle.std.proofs.Common.{◌≡◌, List, false, sym, ap, ◌∙◌, subst}
+use Rattle.std.proofs.Common.{List, false, sym, subst}
 use Rattle.ca_queue.specs.Queue.{Queue}
 use Rattle.ca_model.specs.Speech.{Stored}
 use Rattle.ca_server_subscriptions.specs.Owing.{AreSwitched}

@@ -16,7 +16,7 @@ use Rattle.ca_world_data.specs.Indexed.{client_numbers, server_numbers}
 use Rattle.ca_world_data.specs.Opening.{entries_in}
 use Rattle.ca_world_data.specs.Seen.{joined_of, line_of}
 use Rattle.ca_world.proofs.Cuttings.{cut-serves}
-use Rattle.ca_world.proofs.Pumpings.{pump-by, pump-fits, pump-keeps, pump-none, pump-off}
+use Rattle.ca_world.proofs.Pumpings.{pump-alike, pump-by, pump-fits, pump-keeps, pump-none, pump-off}
 use Rattle.ca_world_data.proofs.Indexes.{indexed-circuit, indexed-same, numbers-set}
 use Rattle.ca_world.proofs.Lasting.{all-stand}
 use Rattle.ca_world_data.proofs.Worlds.{ends-here, ends-server, found, is-open, no-ends-here, not-open, set-map, world_of}
@@ -83,6 +83,24 @@ pump_at-requires-clause-fits c =
     let server : At ss e.server y = found ss e.server y y (ends-server (length cs) (length ss) ks k e a) c.index_mut.ensures.value in
     let j : Joined = c.index_mut-2.result.now in
     pump-fits cs ss ks cl sl w.moment k e a j y server c.self.invariant.fit
+
+pub pump_at-requires-clause-alike : goal.pump_at-requires-clause-alike
+pump_at-requires-clause-alike c =
+    let w = c.self.inside in
+    let cs : List ClientSide = w.clients.items in
+    let ss : List ServerSide = w.servers.items in
+    let ks : List Joined = w.circuits.items in
+    let cl : List (List Line) = map (λ log. map line_of log.items) w.client_logs.items in
+    let sl : List (List history.Entry) = entries_in w.server_logs.items in
+    let e : Ends = c.in-Some.ends in
+    let k : ℕ = c.args.circuit in
+    let a = ends-here cs ss ks c.deref.result.now c.len.result c.len-2.result k e (omega (arith, c.len.ensures)) (omega (arith, c.len-2.ensures)) c.deref.ensures.value c.in-Some.ensures in
+    let y : ServerSide = c.index_mut.result.now in
+    let server : At ss e.server y = found ss e.server y y (ends-server (length cs) (length ss) ks k e a) c.index_mut.ensures.value in
+    let j : Joined = c.index_mut-2.result.now in
+    let within : k < length ks = At-within ks k a.j a.at in
+    let at : At ks k j = found ks k j j within c.index_mut-2.ensures.value in
+    pump-alike cs ss ks cl sl w.moment k e a j y at server (is-open e.server_open c.if-not-ends.false) c.self.invariant.reached
 
 pub returns : goal.returns
 returns c =

@@ -1,0 +1,18 @@
+use Rattle.std.proofs.Common.{◌≤◌, subst, arith}
+use Rattle.ca_text.specs.Limits.{payload_limit}
+use Rattle.ca_dbr.specs.Elements.{Elements, IsValue}
+use Rattle.ca_dbr.specs.Types.{size_of_image}
+use Rattle.ca_server_circuit.proofs.Pumps.{small-image}
+use Rattle.ca_server_circuit.proofs.Sizes.{shows-within}
+use Rattle.ca_server_circuit.proofs.updates.shown_size.Goals as goal
+
+pub overflow_add-result : goal.overflow_add-result
+overflow_add-result c =
+    let small : size_of_image c.in-Ok.ensures.0 c.count_for-count.result ≤ payload_limit = small-image c.in-Ok.ensures.0 c.count_for-count.result c.count_for-count.ensures.limit in
+    let is = c.in-Ok.ensures.2 in
+    omega (arith, small, is)
+
+pub returns : goal.returns
+returns c =
+    shows-within c.args.wanted.now c.args.shown.now (subst (λ (e : Elements). IsValue e) c.value.ensures.value c.know.ensures) c.in-Ok.ensures.0 c.count_for-count.result c.in-Ok.size
+    c.in-Ok.ensures.1 c.count_for-count.ensures.count c.in-Ok.ensures.2
