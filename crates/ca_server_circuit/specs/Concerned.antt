@@ -22,12 +22,12 @@ ConcernsOn name mask place (server.Open e) queue =
     ConcernsAt name mask place e.subscriptions e.queues queue
 ConcernsOn name mask place (server.Ended w left) queue = queue ≡ None
 
--- An update that shows this to whoever asked so has at most n bytes behind its header.
+-- An update that shows this to whoever asked so has at most n bytes of payload.
 abbrev pub ShowsWithin : Wanted → Stored → (n : ℕ) → Type 0
 ShowsWithin w v n = (m : Fields) → ShowsTo w v m → length m.payload ≤ n
 
--- The update that has this number from the front of the queue at this place has at most so many
--- bytes behind its header, whenever it is shown.
+-- The update that has this number from the front of the queue at this place has at most this many
+-- bytes of payload, whenever it is shown.
 abbrev pub SizesAt : Subscribed → (place index : ℕ) → Option ℕ → Type 0
 SizesAt s place index size =
     (x : Subscription) (v : Stored) → WaitsAt s place index x v

@@ -323,7 +323,7 @@ impl Circuit {
         }
     }
 
-    /// How many bytes the update has at most behind its header that has this number from the front
+    /// How many bytes of payload the update has at most that has this number from the front
     /// of the queue at this place, if its end is open and one waits there. Only a recorder of
     /// histories needs it.
     pub fn update_size(&self, place: usize, index: usize) -> Option<usize>

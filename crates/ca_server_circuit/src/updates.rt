@@ -132,7 +132,7 @@ impl End {
         Ok(true)
     }
 
-    /// How many bytes the update has at most behind its header that has this number from the front
+    /// How many bytes of payload the update has at most that has this number from the front
     /// of the queue at this place, if one waits there. Only a recorder of histories needs it.
     pub(crate) fn update_size(&self, place: usize, index: usize) -> Option<usize>
         ensures { SizesAt (events_of self.now) place index result }
@@ -144,7 +144,7 @@ impl End {
     }
 }
 
-/// How many bytes an update has at most behind its header that shows this to whoever asked so: an
+/// How many bytes of payload an update has at most that shows this to whoever asked so: an
 /// image, or as many zero bytes, and those of its padding.
 fn shown_size(wanted: &Wanted, shown: &Update) -> usize
     requires { IsAskable wanted.now }

@@ -42,7 +42,7 @@ ConcernsUnder name mask place (Some (Ended w left)) queue = queue ≡ None
 ConcernsUnder name mask place None queue = queue ≡ None
 
 -- The update that has this number from the front of the queue at this place of an open end has at
--- most so many bytes behind its header, whenever it is shown.
+-- most this many bytes of payload, whenever it is shown.
 abbrev pub SizesUnder : Option ServerCircuit → (place index : ℕ) → Option ℕ → Type 0
 SizesUnder (Some c) place index size = SizesOn c place index size
 SizesUnder None place index size = Unit {0}

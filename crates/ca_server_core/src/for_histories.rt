@@ -91,7 +91,7 @@ pub fn concerned_at(
     }
 }
 
-/// How many bytes the update has at most behind its header that has this number from the front of
+/// How many bytes of payload the update has at most that has this number from the front of
 /// the queue at this place of a circuit, if its end is open and one waits there.
 pub fn update_size(core: &ServerCore, circuit: Handle, place: usize, index: usize) -> Option<usize>
     ensures { SizesUnder (under core.now.circuits circuit) place index result }

@@ -34,7 +34,7 @@ module _ (waited : ℕ) (bytes : List ℕ) (ms : List Fields) (behind : StandBeh
       let long : waited ≡ length behind.begun = behind.long in
       omega (arith, all, long)
 
-  -- they are what is behind so many bytes
+  -- they are what comes after that many bytes
   pub behind-are : drop waited bytes ≡ spelled ms
   behind-are = ap (drop waited) behind.are ∙ drop_at behind.begun (spelled ms) waited (sym behind.long)
 

@@ -94,7 +94,7 @@ pub record HasRoomAhead (number : ℕ) (j : Opened) : Type 0 where
   pub notes : HasRoomToNote 2 j
   pub begins : HasRoomToBegin number j
 
--- memory for replies, of which the first has so many bytes at most behind its header
+-- memory for replies, of which the first has at most this many bytes of payload
 pub record IsSpareFor (size : ℕ) (s : Spare) : Type 0 where
   pub spare : IsSpare s
   pub many : size ≤ vec_capacity s.payload

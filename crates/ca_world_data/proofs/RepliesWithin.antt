@@ -12,7 +12,7 @@ use Rattle.ca_world_data.specs.Updates.{AreGood}
 pub rest-is : (bytes : List ℕ) (n : ℕ) → take (length bytes - n) (drop n bytes) ≡ drop n bytes
 rest-is bytes n = (let len = length-drop n bytes in take_all (length bytes - n) (drop n bytes) (omega (arith, len)))
 
--- so many bytes are within more
+-- what is within a size is within a larger one
 pub within-more : (n k : ℕ) (ms : List Fields) → n ≤ k → AreWithin n ms → AreWithin k ms
 within-more n k [] le within = tt
 within-more n k (a ∷ []) le within = omega (arith, le, within)
@@ -49,7 +49,7 @@ module _ (n : ℕ) (bytes : List ℕ) where
       go (a ∷ b ∷ []) are good within = record { m = a; good = good 0 a refl; rest = spelled (b ∷ []); begins = are; fits = within.0 }
       go (a ∷ b ∷ c ∷ ms) are good within = absurd within
 
-  -- behind it is the second, which has no payload
+  -- after it comes the second, which has no payload
   pub second-fits : AreFew n bytes → (read : ℕ) (first : Fields) → Reads bytes first → read ≡ length (spelling first) → read < length bytes → FrontFits (drop read bytes) 0
   second-fits few read first reads size lt = go few.ms few.are few.good few.within
     where
@@ -77,7 +77,7 @@ module _ (n : ℕ) (bytes : List ℕ) where
     same-size : (a : Fields) (rest : List ℕ) → IsMessage a → bytes ≡ spelling a ++ rest → read ≡ length (spelling a)
     same-size a rest good are = size ∙ ap (λ (x : Fields). length (spelling x)) (reads a rest good are)
 
-    -- there is no byte behind the first: it is all
+    -- there is no byte after the first: it is all
     pub one-told : (ms : List Fields) → AreGood ms → bytes ≡ spelled ms → 0 < length bytes → length bytes ≤ read → ms ≡ first ∷ []
     one-told [] good are some over = (let none : length bytes ≡ 0 = ap (λ (l : List ℕ). length l) are in absurd (omega (arith, none, some)))
     one-told (a ∷ []) good are some over = ap (λ (x : Fields). x ∷ []) (sym (reads a [] (good 0 a refl) are))

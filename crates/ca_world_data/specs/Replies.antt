@@ -7,7 +7,7 @@ use Rattle.ca_model.specs.ServerEvents.{about}
 use Rattle.ca_world_data.specs.declared.replies.Spare.{Spare}
 use Rattle.ca_world_data.specs.Updates.{AreGood}
 
--- There are at most two messages, of which the first has at most n bytes behind its header, and the
+-- There are at most two messages, of which the first has at most n bytes of payload, and the
 -- second none.
 abbrev pub AreWithin : ℕ → List Fields → Type 0
 AreWithin n [] = Unit {0}
@@ -15,13 +15,13 @@ AreWithin n (a ∷ []) = length a.payload ≤ n
 AreWithin n (a ∷ b ∷ []) = (length a.payload ≤ n) × (b.payload ≡ [])
 AreWithin n ms = ⊥
 
--- memory for so many replies, of which there is none yet
+-- memory for two replies, of which there is none yet
 pub record IsSpare (s : Spare) : Type 0 where
   pub none : s.told.items ≡ []
   pub two : vec_len s.told + 2 ≤ vec_capacity s.told
   pub empty : s.payload.items ≡ []
 
--- the bytes are what so many messages are spelled
+-- the bytes are what one or two such messages, or none, are spelled
 pub record AreFew (n : ℕ) (bytes : List ℕ) : Type 0 where
   pub ms : List Fields
   pub good : AreGood ms

@@ -8,17 +8,17 @@ use crate::history::{Cause, Told};
 use ca_wire::{message_at, spelled_size};
 use std::alloc::{AllocError, Global};
 
-/// A message has at most so many replies.
+/// The most replies that a message has.
 pub const MOST_REPLIES: usize = 2;
 
-/// Memory for the replies to a message, and for what the first of them has behind its header.
+/// Memory for the replies to a message, and for the payload of the first.
 #[derive(Drop)]
 pub struct Spare {
     pub told: Vec<Told>,
     pub payload: Vec<u8>,
 }
 
-/// Memory for replies, of which the first has at most this many bytes behind its header, and the
+/// Memory for replies, of which the first has at most this many bytes of payload, and the
 /// second none.
 pub fn make_spare(alloc: Global, size: usize) -> Result<Spare, AllocError>
     ensures spare { IfOk result (λ s. IsSpare s) }

@@ -192,7 +192,7 @@ module _ (r : RecordState) (m : Fields) (t : DataType) (size : ℕ) (numbered : 
   same-type : (u : DataType) → type_of m.data_type ≡ Some u → t ≡ u
   same-type u typed = some_is t u (sym (type-of-number t m.data_type numbered) ∙ typed)
 
-  -- it has so many bytes, and those of its padding
+  -- it has that size, and its padding
   pub sized-shown : IsRecord r → AreShownWithin r m (size + 7)
   sized-shown record_is rights u e typed none shows =
       let kind = shown-is r.value (read_count r m) u.base e shows in

@@ -20,7 +20,7 @@ AreShownWithin r m n =
     → length (padded (image t e r.meta)) ≤ n
 
 -- Whatever is due for the message on this circuit, its replies are two at most, of which the first
--- has at most n bytes behind its header, and the second none.
+-- has at most n bytes of payload, and the second none.
 abbrev pub Answers : Server → Handle → Fields → (n : ℕ) → Type 0
 Answers core h m n =
     (e : ServerEnd) (replies : List Fields) (action : Action) → HasEnd core h e

@@ -21,7 +21,7 @@ use ca_world_data::server::RecordSide;
 use std::alloc::{AllocError, Global};
 
 /// The next message: its command, the write that it may be, the puts of the channel that it clears,
-/// and how many bytes the first reply to it has at most behind its header.
+/// and how many bytes of payload the first reply to it has at most.
 #[derive(Drop)]
 pub struct Ahead {
     pub command: u16,

@@ -16,7 +16,7 @@ use ca_world_data::payloads::count_within;
 // is 24 bytes, and an empty text of 8.
 const MOST_WITHOUT_VALUE: usize = 32;
 
-/// How many bytes the first reply to this message has at most behind its header, if the message is
+/// How many bytes of payload the first reply to this message has at most, if the message is
 /// the next on this circuit. There are at most two replies, and the second has none.
 pub fn reply_size(core: &ServerCore, circuit: Handle, message: &Message) -> usize
     ensures { Answers core.now circuit message.now result }
