@@ -1,6 +1,7 @@
 //! Updates that left a server's queues, read off the bytes that they became, into memory that was
 //! made before they left.
-ghost use Rattle.std.specs.Prelude.{ℕ, ◌≡◌, ◌≤◌, ◌∷◌, IfOk, List, OnErr, false, length, map, true};
+ghost use Rattle.std.specs.Prelude.{ℕ, ◌≡◌, ◌+◌, ◌<◌, ◌≤◌, ◌^◌, ◌∷◌, IfOk, List, OnErr, false};
+ghost use Rattle.std.specs.Prelude.{length, map, true};
 ghost use Rattle.ca_queue.specs.Circuit.{RestBefore, Takes};
 ghost use Rattle.ca_queue.specs.Queue.{Queue};
 ghost use Rattle.ca_text.specs.Place.{At};
@@ -43,8 +44,7 @@ pub fn reserve_updates(
         return Ok(Vec::new(alloc));
     }
     let rooms = make_rooms(alloc, core, joined)?;
-    let updates = count_rooms(&rooms)?;
-    reserve_list(&mut joined.lists.down, updates)?;
+    reserve_list(&mut joined.lists.down, count_rooms(&rooms))?;
     Ok(rooms)
 }
 
@@ -112,18 +112,15 @@ fn rooms_of(
     Ok(own)
 }
 
-// For how many updates that is memory.
-fn count_rooms(rooms: &[VecDeque<Vec<u8>>]) -> Result<usize, AllocError>
-    ensures { IfOk result (λ n. n ≡ how_many (map (λ own. own.items) rooms.now)) }
+// For how many updates that is memory, unless that is the largest number.
+fn count_rooms(rooms: &[VecDeque<Vec<u8>>]) -> usize
+    ensures { result + 1 < 2 ^ 64 → result ≡ how_many (map (λ own. own.items) rooms.now) }
 {
     let mut updates: usize = 0;
     for own in rooms {
-        let Some(more) = updates.checked_add(own.len()) else {
-            return Err(AllocError);
-        };
-        updates = more;
+        updates = updates.saturating_add(own.len());
     }
-    Ok(updates)
+    updates
 }
 
 // Takes the number in front of the first queue that gives one, and reports the place of the queue.

@@ -1,4 +1,5 @@
-use Rattle.std.proofs.Common.{◌≡◌, map, ap, arith}
+use Rattle.std.proofs.Common.{◌≡◌, ◌<◌, ◌^◌, map, ap, arith}
+use Rattle.std.specs.Prelude.{vec_capacity}
 use Rattle.std.specs.VecDeque.{deque_items}
 use Rattle.ca_world_data.specs.Updates.{how_many}
 use Rattle.ca_world_data.proofs.updates.reserve_updates.Goals as goal
@@ -12,4 +13,7 @@ returns-then-not-may_pump-clause-ready c = λ e has.
 pub returns-clause-ready : goal.returns-clause-ready
 returns-clause-ready c = λ e has.
     let many : how_many (map deque_items c.deref.result.now) ≡ how_many (map deque_items c.in_ok-rooms.rooms.items) = ap (λ l. how_many (map deque_items l)) c.deref.ensures.value in
-    record { own = c.in_ok-rooms.ensures e has; down = omega (arith, many, c.in_ok-updates.ensures, c.in_ok-reserve_list.ensures.room) }
+    let small : vec_capacity c.reserve_list.new.list < 2 ^ 63 = c.reserve_list.new.list.small in
+    let room = c.in_ok-reserve_list.ensures.room in
+    let all = c.count_rooms.ensures (omega (arith, small, room)) in
+    record { own = c.in_ok-rooms.ensures e has; down = omega (arith, many, all, room) }
