@@ -360,10 +360,7 @@ proctype Circuit(byte c) {
             :: !open[c] -> turn = CLOSED
             :: open[c] && output[c] >= LIMIT -> turn = BUSY
             :: open[c] && output[c] < LIMIT && input[c] == 0 ->
-                turn = IDLE;
-#if PLANT != 1
-                d_step { pump(c) }
-#endif
+                turn = IDLE
             :: open[c] && output[c] < LIMIT && input[c] != 0 ->
                 input[c]--;
                 turn = BUSY;
@@ -393,23 +390,27 @@ proctype Circuit(byte c) {
                     d_step { reach(c) }
 #endif
                 fi;
-                slow = 0;
-                d_step { pump(c) }
+                slow = 0
             fi;
-            /* take_out */
+            /* take_out, with State::pump_over */
             d_step {
                 if
                 :: turn == CLOSED -> has_bell[c] = 0
                 :: else ->
-                    all = 1;
-#if PLANT != 21
-                    all = output[c] < LIMIT;
-#endif
+                    all = 0;
                     if
-                    :: output[c] != 0 && line[c] == 0 -> line[c] = output[c]; output[c] = 0
+                    :: line[c] == 0 ->
+#if PLANT != 1
+                        pump(c);
+#endif
+                        all = 1;
+#if PLANT != 21
+                        all = output[c] < LIMIT;
+#endif
+                        line[c] = output[c];
+                        output[c] = 0
                     :: else
                     fi;
-                    all = all && output[c] == 0;
                     if
                     :: turn == IDLE && !(all && open[c]) -> turn = BUSY
                     :: else

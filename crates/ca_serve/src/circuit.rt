@@ -12,7 +12,6 @@ use crate::tally::Tally;
 use crate::work::ThreadWork;
 use ca_arena::Handle;
 use ca_server_core::CoreStep;
-use ca_text::OUTPUT_LIMIT;
 use ca_wire::Pipe;
 use indexmap::IndexSet;
 use std::net::{Net, TcpListener, TcpStream};
@@ -130,7 +129,7 @@ impl<L: Ledger, D: Device> ThreadWork<Gathered<L>> for CircuitThread<L, D> {
                     break;
                 }
                 turn => {
-                    tally.count(socket.taken());
+                    tally.count_all(socket.taken());
                     let before = socket.written;
                     let written = socket.write();
                     let took = socket.written != before;
@@ -278,7 +277,7 @@ fn take_in<L: Ledger>(
     }
 }
 
-// Handles messages of a circuit, up to a number of them, and then puts its updates out. The clock
+// Handles messages of a circuit, up to a number of them. The clock
 // is read once: that takes as long as a third of a put. A write after another is a nanosecond
 // later.
 fn steps<L: Ledger, R: Clock>(
@@ -298,19 +297,15 @@ fn steps<L: Ledger, R: Clock>(
     for _ in 0..STEPS {
         match locked.step(slow, circuit, share, &mut reached, rings) {
             CoreStep::Handled(_) => {}
-            CoreStep::NeedBytes => {
-                locked.state.pump(circuit);
-                return Turn::Idle;
-            }
+            CoreStep::NeedBytes => return Turn::Idle,
             CoreStep::OutputFull => return Turn::Busy,
             CoreStep::Closed(_, left) => return Turn::Closed(left),
         }
     }
-    locked.state.pump(circuit);
     Turn::Busy
 }
 
-// Hands bytes that wait over to the socket. A circuit is idle if nothing more waits then: neither
+// Pumps the circuit, and hands what waits over to the socket. A circuit is idle if nothing more waits then: neither
 // bytes nor updates, which a pump leaves in the queues once 262,144 bytes wait. One that is closed
 // is counted, and has no bell any more.
 fn take_out<L: Ledger>(
@@ -324,13 +319,8 @@ fn take_out<L: Ledger>(
         locked.closed = locked.closed.saturating_add(1);
         return Turn::Closed(left);
     }
-    let is_pumped = locked.state.out_bytes(circuit).len() < OUTPUT_LIMIT;
-    let is_all = socket.take_out(&mut locked.state, circuit)
-        || locked.state.out_bytes(circuit).is_empty();
-    let is_idle = matches!(turn, Turn::Idle)
-        && is_pumped
-        && is_all
-        && locked.state.is_open(circuit);
+    let is_all = socket.take_out(&mut locked.state, circuit) && !socket.is_at_most();
+    let is_idle = matches!(turn, Turn::Idle) && is_all && locked.state.is_open(circuit);
     locked.rest(circuit, is_idle);
     match turn {
         Turn::Idle if !is_idle => Turn::Busy,

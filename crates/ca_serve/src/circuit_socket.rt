@@ -3,12 +3,13 @@
 use crate::accepting::SOCKET;
 use ca_arena::Handle;
 use ca_server::State;
-use ca_text::Refusal;
+use ca_server_core::Outgoing;
+use ca_text::{OUTPUT_LIMIT, Refusal};
 use ca_wire::Pipe;
 use mio::net::TcpStream;
 use mio::{Events, Interest, Poll, Registry, Token};
 use std::alloc::Global;
-use std::io::{Read, Write};
+use std::io::{IoSlice, Read};
 use std::sync::ledger::Ledger;
 use std::sync::{Arc, Wait};
 use std::thread::Parker;
@@ -39,7 +40,7 @@ pub(crate) struct CircuitSocket {
     // The poll that all parked circuits share tells of room, too.
     asks_room: bool,
     pub(crate) input: Vec<u8>,
-    output: Pipe,
+    output: Outgoing,
     // These bytes were taken in the last turn.
     is_taken: bool,
     /// How many bytes of the output were written.
@@ -49,8 +50,10 @@ pub(crate) struct CircuitSocket {
 /// What the thread of one circuit waits at.
 #[derive(Drop)]
 pub(crate) struct Own {
-    pub(crate) poll: Poll,
-    pub(crate) events: Events<Global>,
+    poll: Poll,
+    events: Events<Global>,
+    // A read found nothing, and the poll has told of nothing since: so another would find nothing.
+    is_drained: bool,
 }
 
 /// What a read did.
@@ -86,7 +89,7 @@ impl CircuitSocket {
             parker,
             asks_room: false,
             input: vec![in alloc; 0; PARKED_ROOM]?,
-            output: Pipe::new(alloc),
+            output: Outgoing::new(alloc),
             is_taken: false,
             written: 0,
         })
@@ -96,11 +99,11 @@ impl CircuitSocket {
         self.own.is_none()
     }
 
-    /// The bytes that were taken for output in the last turn: it gives them once.
-    pub(crate) fn taken(&mut self) -> &[u8] {
+    /// What was taken for output in the last turn: it gives that once.
+    pub(crate) fn taken(&mut self) -> Option<&Outgoing> {
         let is_taken = self.is_taken;
         self.is_taken = false;
-        if is_taken { self.output.bytes() } else { &[] }
+        is_taken.then_some(&self.output)
     }
 
     /// Puts the socket among those of the circuits that are parked, and says whether it could. It
@@ -137,6 +140,9 @@ impl CircuitSocket {
     /// Reads what is there. Readiness is told of once, so that a wait is safe only after a read
     /// that found nothing.
     pub(crate) fn read(&mut self) -> SocketRead {
+        if self.own.as_ref().is_some_and(|own| own.is_drained) {
+            return SocketRead::Later;
+        }
         match self.stream.read(self.input.as_mut_slice()) {
             Ok(0) => SocketRead::Ended,
             Ok(count) => {
@@ -144,7 +150,12 @@ impl CircuitSocket {
                 SocketRead::Count(count)
             }
             Err(error) => match error.kind() {
-                io::ErrorKind::WouldBlock => SocketRead::Later,
+                io::ErrorKind::WouldBlock => {
+                    if let Some(own) = &mut self.own {
+                        own.is_drained = true;
+                    }
+                    SocketRead::Later
+                }
                 // It is made again after a turn.
                 io::ErrorKind::Interrupted => SocketRead::Count(0),
                 _ => SocketRead::Ended,
@@ -218,14 +229,14 @@ impl CircuitSocket {
     /// Writes the output, as far as the socket takes it.
     pub(crate) fn write(&mut self) -> Written {
         for _ in 0..u64::MAX {
-            let rest = match self.output.bytes().get(self.written..) {
-                Some(rest) if !rest.is_empty() => rest,
-                _ => {
-                    self.let_go();
-                    return Written::All;
-                }
-            };
-            match self.stream.write(rest) {
+            if self.is_written() {
+                // Images that no other circuit shares any more are freed here, with no lock held.
+                self.output.clear();
+                self.let_go();
+                return Written::All;
+            }
+            let parts = rest_of(&self.output, self.written);
+            match self.stream.write_vectored(&parts.map(IoSlice::new)) {
                 Ok(0) => return Written::Failed,
                 Ok(count) => self.written = self.written.saturating_add(count),
                 Err(error) => match error.kind() {
@@ -241,54 +252,90 @@ impl CircuitSocket {
     // What was written is let go of while the circuit is parked.
     fn let_go(&mut self) {
         if self.own.is_none() {
-            self.output = Pipe::new(*self.input.allocator());
+            self.output = Outgoing::new(*self.input.allocator());
         }
     }
 
     /// Whether all that was taken for output was written, so that more may be taken.
     pub(crate) fn is_written(&self) -> bool {
-        self.written >= self.output.bytes().len()
+        self.written >= self.output.len()
     }
 
-    /// Takes all that waits on the circuit for output, if all before was written, and says whether
-    /// it did. Few bytes are copied, so that memory for many stays with those who send many: the
-    /// others come with their memory, and so they do if the circuit is parked, or if there is none
-    /// for a copy.
+    /// Pumps the circuit and takes all that waits on it for output, if all before was written, and
+    /// says whether it did. Few bytes are copied, so that memory for many stays with those who send
+    /// many; a circuit that is parked keeps none.
     pub(crate) fn take_out<L: Ledger>(&mut self, state: &mut State<L>, circuit: Handle) -> bool {
         if !self.is_written() {
             return false;
         }
-        self.output.truncate(0);
+        let copied = if self.is_parked() { 0 } else { ROOM };
         self.written = 0;
         self.is_taken = true;
-        let waiting = state.out_bytes(circuit);
-        let count = waiting.len();
-        if self.own.is_some() && count <= ROOM && self.output.push(waiting).is_ok() {
-            state.sent(circuit, count);
-        } else {
-            state.hand_over(circuit, &mut self.output);
-        }
+        state.pump_over(circuit, copied, &mut self.output);
         true
+    }
+
+    /// Whether no fewer bytes were taken than may be at once, so that more may wait.
+    pub(crate) fn is_at_most(&self) -> bool {
+        self.output.len() >= OUTPUT_LIMIT
     }
 
     /// Takes all that a closed circuit left for output, if all before was written.
     pub(crate) fn take_left(&mut self, left: &mut Pipe) {
         if self.is_written() {
-            left.hand_over(&mut self.output);
+            self.output.take(left);
             self.written = 0;
         }
     }
 }
 
 impl Own {
+    /// One at which nothing has come yet.
+    pub(crate) fn new(poll: Poll, events: Events<Global>) -> Own {
+        Own {
+            poll,
+            events,
+            is_drained: false,
+        }
+    }
+
     // Waits until something comes, for so long at most. Says whether nothing did.
     fn is_idle<R: Clock>(&mut self, rt: &R, most: Option<Duration>) -> bool {
         match self.poll.poll(&mut self.events, most) {
-            Ok(()) => self.events.is_empty(),
+            Ok(()) => {
+                if self.events.iter().any(|event| event.token() == SOCKET) {
+                    self.is_drained = false;
+                }
+                self.events.is_empty()
+            }
             Err(_) => {
                 thread::sleep(rt, Duration::from_millis(PAUSE));
                 false
             }
         }
     }
+}
+
+// The parts of what leaves from this byte on, as many as are written at once.
+fn rest_of(output: &Outgoing, written: usize) -> [&[u8]; 3] {
+    let mut left = written;
+    for piece in output.pieces() {
+        let (before, header, image) = piece.parts();
+        let parts = [
+            after(before, &mut left),
+            after(header, &mut left),
+            after(image, &mut left),
+        ];
+        if parts.iter().any(|part| !part.is_empty()) {
+            return parts;
+        }
+    }
+    [after(output.last(), &mut left), &[], &[]]
+}
+
+// These bytes without those of the first n that they have; n is less by these.
+fn after<'a>(bytes: &'a [u8], left: &mut usize) -> &'a [u8] {
+    let count = bytes.len().min(*left);
+    *left = left.saturating_sub(count);
+    bytes.get(count..).unwrap_or(&[])
 }

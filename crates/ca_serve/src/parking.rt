@@ -57,7 +57,7 @@ impl Parking {
         let (poll, waker) = new_poll(rt)?;
         let waker = Arc::new(alloc, waker)?;
         let events = Events::with_capacity(alloc, 4)?;
-        socket.leave(Own { poll, events }, &self.registry)?;
+        socket.leave(Own::new(poll, events), &self.registry)?;
         *polls += 1;
         Ok(waker)
     }

@@ -1,6 +1,7 @@
 //! The replies of one circuit, counted as they go to its socket, with no lock held.
 
 use crate::meter::{Meter, Replies};
+use ca_server_core::Outgoing;
 use ca_text::{Command, Status};
 use ca_wire::{Header, One, read_one};
 use std::alloc::Global;
@@ -45,6 +46,19 @@ impl Tally {
             meter.add(&self.counted);
         }
         self.counted = Replies::NONE;
+    }
+
+    /// Counts all replies that leave. Each image is that of an update.
+    pub(crate) fn count_all(&mut self, output: Option<&Outgoing>) {
+        let Some(output) = output else {
+            return;
+        };
+        for piece in output.pieces() {
+            let (before, _, _) = piece.parts();
+            self.count(before);
+            one_more(&mut self.counted.updates);
+        }
+        self.count(output.last());
     }
 
     /// The circuit is open.

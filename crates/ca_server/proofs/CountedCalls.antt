@@ -1,5 +1,5 @@
 -- The calls of a server by which no write is applied and no put comes to wait.
-use Rattle.std.proofs.Common.{◌≡◌, ◌≤◌, ℕ, Bool, true, false, cond, not, inl, inr, List, ◌∷◌, ◌++◌, Option, Some, None, Result, Ok, Err, length, refl, sym, subst, arith}
+use Rattle.std.proofs.Common.{◌≡◌, ◌≤◌, ℕ, Bool, true, false, cond, not, inl, inr, List, ◌∷◌, ◌++◌, Option, Some, None, Result, Ok, Err, length, refl, sym, ◌∙◌, subst, arith}
 use Rattle.std.specs.Prelude.{drop, map, take}
 use Rattle.std.specs.Str.{bytes_eq}
 use Rattle.ca_arena.specs.declared.handle.Handle.{Handle}
@@ -16,6 +16,7 @@ use Rattle.ca_model.specs.ServerCalls.{AddsRecord, Beacons, Posts, Removes, stam
 use Rattle.ca_model.specs.ServerSteps.{Accepts, Cuts, Gives, Pumps, Sends, Update, closed, ended}
 use Rattle.ca_model.specs.Ends.{Why}
 use Rattle.ca_model.specs.Speech.{Stored}
+use Rattle.ca_server_core.specs.Pumping.{HandsOver}
 use Rattle.ca_server.specs.Counts.{CountsNothing}
 use Rattle.ca_server.proofs.Names.{Distinct, apart, distinct, distinct-added, distinct-filter, distinct-map, lacks-named}
 use Rattle.ca_server.proofs.Waits.{fewer-without, waits-added, waits-fewer, waits-filter, with-record-fewer}
@@ -95,6 +96,12 @@ gives old h bytes (Err _) new did = absurd did
 pub sends : (old : Server) (h : Handle) (n : ℕ) (new : Server) → Sends old h n new → CountsNothing old new
 sends old h n new (inl did) = by old _ new did.3 (nothing old _ refl (fewer-same old.records))
 sends old h n new (inr none) = unchanged old new none.2
+
+pub hands : (old : Server) (h : Handle) (out : List ℕ) (new : Server) → HandsOver old h out new → CountsNothing old new
+hands old h out new did = by old _ new did.2 (nothing old _ refl (fewer-same old.records))
+
+pub then-nothing : (a b c : Server) → CountsNothing a b → CountsNothing b c → CountsNothing a c
+then-nothing a b c p q = record { applied = q.applied ∙ p.applied; waits = omega (arith, p.waits, q.waits); apart = λ names. q.apart (p.apart names) }
 
 pub cuts : (old : Server) (h : Handle) (new : Server) → Cuts old h new → CountsNothing old new
 cuts old h new (inl did) = by old _ new did.2 (ended-nothing h _ _ old)

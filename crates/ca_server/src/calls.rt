@@ -1,23 +1,26 @@
 //! Calls of a server under its lock that pass on to the core.
-ghost use Rattle.std.specs.Prelude.{◌≡◌, ◌≤◌, Bool, Err, IfErr, IfOk, List, Ok, [], false, length};
+ghost use Rattle.std.specs.Prelude.{◌≡◌, Bool, Err, IfErr, IfOk, List, Ok, [], false};
 ghost use Rattle.std.specs.Prelude.{map, option_copied, option_map, unwrap_or, ℕ};
 ghost use Rattle.ca_arena.specs.declared.handle.Handle.{Handle};
 ghost use Rattle.ca_dbr.specs.Elements.{elements};
 ghost use Rattle.ca_ids.specs.Table.{has_free, under};
 ghost use Rattle.ca_model.specs.ServerCalls.{AddsRecord, AnswersDatagram, Beacons, Posts, Removes};
 ghost use Rattle.ca_model.specs.ServerCalls.{stamped};
-ghost use Rattle.ca_model.specs.ServerSteps.{Accepts, Cuts, Gives, Pumps, Sends, Update, output_of};
+ghost use Rattle.ca_model.specs.Server.{Server};
+ghost use Rattle.ca_model.specs.ServerSteps.{Accepts, Cuts, Gives, Pumps, Update};
 ghost use Rattle.ca_records.specs.Record.{unset};
 ghost use Rattle.ca_text.specs.declared.refusal.Refusal.TheVariants.{OutOfMemory};
 ghost use Rattle.ca_server_circuit.specs.Circuits.{is_open};
+ghost use Rattle.ca_server_circuit.specs.Outgoing.{bytes_of};
+ghost use Rattle.ca_server_core.specs.Pumping.{HandsOver};
 ghost use Rattle.ca_server_core.specs.Asking.{AreAllAmong, NamesUnder, busy_circuit, busy_value};
 
 use crate::state::State;
 use ca_arena::Handle;
 use ca_dbr::{Meta, Value};
-use ca_server_core::RecordWatchers;
+use ca_server_core::{Outgoing, RecordWatchers};
 use ca_text::Refusal;
-use ca_wire::{Pipe, Sid};
+use ca_wire::Sid;
 use std::sync::ledger::Ledger;
 
 // The server's other calls under the lock. None of them counts a write.
@@ -44,13 +47,6 @@ impl<L: Ledger> State<L> {
         self.core.give(circuit, bytes)
     }
 
-    /// The bytes that wait to be sent on a circuit: none if its end is not open.
-    pub fn out_bytes(&self, circuit: Handle) -> &[u8]
-        ensures { result.now ≡ output_of (under self.now.core.circuits circuit) }
-    {
-        self.core.out_bytes(circuit)
-    }
-
     /// Whether the end of a circuit is open.
     pub fn is_open(&self, circuit: Handle) -> bool
         ensures { result ≡ is_open (under self.now.core.circuits circuit) }
@@ -58,38 +54,18 @@ impl<L: Ledger> State<L> {
         self.core.is_open(circuit)
     }
 
-    /// The first n of the bytes that wait on a circuit were handed over.
-    pub fn sent(&mut self, circuit: Handle, n: usize)
-        requires { n ≤ length (output_of (under self.old.core.circuits circuit)) }
-        ensures call { Sends self.old.core circuit n self.new.core }
+    /// Updates that wait on a circuit leave their queues until none may go, and then all bytes leave
+    /// the circuit, those that wait or that its end left, in place of what is there. Up to this many
+    /// bytes are copied, and more come with their memory; an image that several circuits send is
+    /// not copied. If there is no memory for the next update, the end of the circuit has ended.
+    pub fn pump_over(&mut self, circuit: Handle, copied: usize, to: &mut Outgoing)
+        ensures call { (updates : List Update) × ((mid : Server)
+            × Pumps self.old.core circuit updates mid
+            × HandsOver mid circuit (bytes_of to.new) self.new.core) }
         ensures counts { (self.new.count ≡ self.old.count)
             × (self.new.credits.items ≡ self.old.credits.items) }
     {
-        self.core.sent(circuit, n);
-    }
-
-    /// All bytes that wait on a circuit are handed over, in place of those that are there, whose
-    /// memory serves for more: none wait if its end is not open. Nothing is copied, and it does not
-    /// allocate.
-    pub fn hand_over(&mut self, circuit: Handle, to: &mut Pipe)
-        ensures handed { to.new ≡ output_of (under self.old.core.circuits circuit) }
-        ensures left { Sends self.old.core circuit
-            (length (output_of (under self.old.core.circuits circuit))) self.new.core }
-        ensures counts { (self.new.count ≡ self.old.count)
-            × (self.new.credits.items ≡ self.old.credits.items) }
-    {
-        self.core.hand_over(circuit, to);
-    }
-
-    /// Puts updates that wait on a circuit after what waits to be sent, until none may go. Nothing
-    /// happens if its end is not open. If there is no memory for the next, the end of the circuit
-    /// has ended, with those before it.
-    pub fn pump(&mut self, circuit: Handle)
-        ensures call { (updates : List Update) × Pumps self.old.core circuit updates self.new.core }
-        ensures counts { (self.new.count ≡ self.old.count)
-            × (self.new.credits.items ≡ self.old.credits.items) }
-    {
-        self.core.pump(circuit);
+        self.core.pump_over(circuit, copied, to);
     }
 
     /// Cuts a circuit: its end ends, if it is open, and its puts that wait are never applied. One

@@ -9,6 +9,7 @@ ghost use Rattle.ca_model.specs.ServerSteps.{Accepts, Cuts, Gives, Pumps, Sends,
 ghost use Rattle.ca_model.specs.ServerSteps.{Update};
 ghost use Rattle.ca_model.specs.Speech.{Stored};
 ghost use Rattle.ca_records.specs.Record.{RecordState};
+ghost use Rattle.ca_server_core.specs.Pumping.{HandsOver};
 ghost use Rattle.ca_records.specs.declared.puts.Stamp.{Stamp};
 ghost use Rattle.ca_text.specs.Limits.{applied_limit};
 ghost use Rattle.ca_text.specs.declared.refusal.Refusal.{Refusal};
@@ -39,6 +40,8 @@ pub fn other_calls_count_nothing()
         (new : Server) → Gives old h bytes r new → CountsNothing old new }
     ensures sends { (old : Server) (h : Handle) (n : ℕ) (new : Server) → Sends old h n new
         → CountsNothing old new }
+    ensures hands { (old : Server) (h : Handle) (out : List ℕ) (new : Server)
+        → HandsOver old h out new → CountsNothing old new }
     ensures cuts { (old : Server) (h : Handle) (new : Server) → Cuts old h new
         → CountsNothing old new }
     ensures pumps { (old : Server) (h : Handle) (updates : List Update) (new : Server)

@@ -28,3 +28,4 @@ mod Sizes
 pub mod InPlace
 pub mod Watched
 pub mod AtOnce
+pub mod Leaving

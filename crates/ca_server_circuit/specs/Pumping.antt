@@ -1,5 +1,5 @@
 -- Working: updates leave the queues of an end.
-use Rattle.std.specs.Prelude.{ℕ, ◌≡◌, ◌⊎◌, Bool, true, false, List, Ok, Err, Result}
+use Rattle.std.specs.Prelude.{ℕ, ◌≡◌, ◌⊎◌, Bool, true, false, List, [], Ok, Err, Result}
 use Rattle.std.specs.List.{FoldsTo}
 use Rattle.std.specs.declared.alloc.AllocError.{AllocError}
 use Rattle.ca_arena.specs.declared.handle.Handle.{Handle}
@@ -11,7 +11,9 @@ use Rattle.ca_model.specs.Ends as why
 use Rattle.ca_model.specs.Server.{ServerCircuit, ServerEnd}
 use Rattle.ca_model.specs.Server as server
 use Rattle.ca_model.specs.ServerSteps.{Leaves, Rests, Update}
+use Rattle.ca_server_circuit.specs.Concerned.{bytes_on}
 use Rattle.ca_server_circuit.specs.Ending.{WithdrawsAll}
+use Rattle.ca_server_circuit.specs.Outgoing.{emptied, emptied_end}
 use Rattle.ca_server_circuit.specs.Subscribing.{events_of}
 use Rattle.ca_server_subscriptions.specs.Subscribed.{HasRoom}
 
@@ -33,6 +35,16 @@ PumpsEnd old (Err e) new =
     × (new.link.output ≡ after.link.output)
     × (new.channels ≡ old.channels)
 
+-- Updates left until none may, and with them all bytes that waited, which are these; or there is no
+-- memory for the next, and those before it left.
+abbrev pub PumpsOver : ServerEnd → Result (Unit {0}) AllocError → ServerEnd → List ℕ → Type 0
+PumpsOver old (Ok _) new out =
+    (us : List Update) × (after : ServerEnd) × FoldsTo Leaves old us after × Rests after
+    × (out ≡ after.link.output) × (new ≡ emptied_end after)
+PumpsOver old (Err e) new out =
+    (us : List Update) × (after : ServerEnd) × FoldsTo Leaves old us after × (Rests after → ⊥)
+    × (out ≡ after.link.output) × (new.link.output ≡ []) × (new.channels ≡ old.channels)
+
 -- The same on a circuit: an end without memory for the next has ended.
 abbrev pub PumpsAt : Handle → ServerCircuit → Store → ServerCircuit → Store → Type 0
 PumpsAt h (server.Open e) s new t =
@@ -46,3 +58,9 @@ PumpsAt h (server.Ended w left) s new t = (new ≡ server.Ended w left) × (t �
 abbrev pub scalar_update : Wanted → ℕ → ScalarMessage
 scalar_update w n =
     record { command = command.EventAdd; data_type = w.data_type; id = w.id; payload = n }
+
+-- Updates leave the queues of a circuit's end, and then all bytes that wait leave it, or that its
+-- end left: these.
+abbrev pub PumpsOverAt : Handle → ServerCircuit → Store → ServerCircuit → Store → List ℕ → Type 0
+PumpsOverAt h c s new t out =
+    (mid : ServerCircuit) × PumpsAt h c s mid t × (out ≡ bytes_on mid) × (new ≡ emptied mid)

@@ -1,6 +1,7 @@
 //! A circuit of a server: its open end, or the bytes that an ended one left.
 ghost use Rattle.std.specs.Prelude.{◌≡◌, ◌≢◌, ◌≤◌, [], IfOk, OnErr, Some, false, length};
 ghost use Rattle.std.specs.Prelude.{option_map, true};
+ghost use Rattle.std.specs.Arc.{arc_value};
 ghost use Rattle.ca_model.specs.Server.{ServerEnd, new_end};
 ghost use Rattle.ca_model.specs.Server as server;
 ghost use Rattle.ca_model.specs.ServerSteps.{Rests, output_of};
@@ -13,22 +14,27 @@ ghost use Rattle.ca_server_circuit.specs.Concerned.{ConcernsOn, SizesOn, bytes_o
 ghost use Rattle.ca_server_circuit.specs.Ending.{ArePutsAt, EndsAt, IsLeft, WithdrawsAll};
 ghost use Rattle.ca_server_circuit.specs.Finishing.{RepliesAt};
 ghost use Rattle.ca_server_circuit.specs.Peeking.{NamesAt, peer_on};
-ghost use Rattle.ca_server_circuit.specs.Posting.{PostsAt, WatchesAt};
-ghost use Rattle.ca_server_circuit.specs.Pumping.{PumpsAt};
+ghost use Rattle.ca_server_circuit.specs.Outgoing.{bytes_of};
+ghost use Rattle.ca_server_circuit.specs.Posting.{IsCopyAt, PostsAt, WatchesAt, stored_of};
+ghost use Rattle.ca_server_circuit.specs.Pumping.{PumpsAt, PumpsOverAt};
 ghost use Rattle.ca_server_circuit.specs.Removing.{LosesAt, MayLose};
 ghost use Rattle.ca_server_circuit.specs.Serving.{CircuitSteps};
 ghost use Rattle.ca_server_circuit.specs.Stepping.{why_is};
+ghost use Rattle.ca_server_subscriptions.specs.Sharing.{IsCopy};
 
 use crate::cause::EndCause;
 use crate::end::End;
+use crate::outgoing::Outgoing;
 use crate::step::EndStep;
 use ca_arena::Handle;
 use ca_link::Spares;
-use ca_records::{Put, ServedRecords};
+use ca_records::{Put, Record, ServedRecords};
+use ca_server_subscriptions::SharedUpdate;
 use ca_text::Refusal;
 use ca_wire::{Pipe, Sid};
 use std::alloc::{AllocError, Global};
 use std::marker::Model;
+use std::sync::Arc;
 
 /// A circuit of a server.
 #[derive(Drop)]
@@ -165,15 +171,16 @@ impl Circuit {
         circuit: Handle,
         place: usize,
         mask: u16,
+        shared: &Option<Arc<SharedUpdate>>,
         records: &mut ServedRecords,
     ) -> bool
-        requires there { IsThere records.old place }
+        requires copy { IsCopyAt place records.old (option_map arc_value shared.now) }
         requires sound { CircuitIsSound (records_of records.old) circuit self.old }
         ensures posts { PostsAt circuit place mask self.old records.old self.new records.new }
         ensures watches { WatchesAt place self.old records.old result }
     {
         match &mut self.state {
-            CircuitState::Open(end) => match end.post(records.at(place).state(), mask) {
+            CircuitState::Open(end) => match end.post(records.at(place).state(), mask, shared) {
                 Ok(on) => {
                     end.know();
                     on
@@ -226,6 +233,40 @@ impl Circuit {
                 Err(_) => self.close(circuit, EndCause::OutOfMemory, records),
             },
             CircuitState::Ended(_, _) => {}
+        }
+    }
+
+    /// Updates leave the queues of its end until none may, and with them all bytes that wait, or that
+    /// its end left. The end has ended if there is no memory for the next. Up to this many bytes are
+    /// copied.
+    pub fn pump_over(
+        &mut self,
+        circuit: Handle,
+        records: &mut ServedRecords,
+        copied: usize,
+        to: &mut Outgoing,
+    )
+        requires sound { CircuitIsSound (records_of records.old) circuit self.old }
+        requires nothing { (to.old.before ≡ []) × (to.old.last ≡ []) }
+        ensures { PumpsOverAt circuit self.old records.old self.new records.new (bytes_of to.new) }
+    {
+        match &mut self.state {
+            CircuitState::Open(end) => match end.pump_over(copied, to) {
+                Ok(()) => end.know(),
+                Err(_) => self.close(circuit, EndCause::OutOfMemory, records),
+            },
+            CircuitState::Ended(_, left) => to.take(left),
+        }
+    }
+
+    /// A copy of the value of this record that circuits share, with the update that the first
+    /// subscription of its end on it asks for. None if there is none, or no memory.
+    pub fn share(&self, of: &Record) -> Option<Arc<SharedUpdate>>
+        ensures { IsCopy (stored_of of.now) (option_map arc_value result) }
+    {
+        match &self.state {
+            CircuitState::Open(end) => end.share(of),
+            CircuitState::Ended(_, _) => None,
         }
     }
 
@@ -297,18 +338,6 @@ impl Circuit {
         match &mut self.state {
             CircuitState::Open(end) => end.link.sent(n),
             CircuitState::Ended(_, _) => {}
-        }
-    }
-
-    /// All bytes that wait are handed over, in place of those that are there, whose memory it keeps
-    /// for more. Nothing is copied, and it does not allocate.
-    pub fn hand_over(&mut self, to: &mut Pipe)
-        ensures handed { to.new ≡ output_of (Some self.old) }
-        ensures left { SendsAt (length (output_of (Some self.old))) self.old self.new }
-    {
-        match &mut self.state {
-            CircuitState::Open(end) => end.link.hand_over(to),
-            CircuitState::Ended(_, _) => to.truncate(0),
         }
     }
 

@@ -1,9 +1,10 @@
 //! Updates of an open end: a post makes them, and a pump sends them.
-ghost use Rattle.std.specs.Prelude.{◌≡◌, ◌<◌, ◌≤◌, ◌==◌, IfOk, IfSome, OnErr, OnOk, [], ◌∷◌, false};
-ghost use Rattle.std.specs.Prelude.{if◌then◌else◌, length, replicate, true};
+ghost use Rattle.std.specs.Prelude.{◌≡◌, ◌<◌, ◌≤◌, ◌==◌, ◌++◌, IfOk, IfSome, OnErr, OnOk, [], ◌∷◌};
+ghost use Rattle.std.specs.Prelude.{false, if◌then◌else◌, length, option_map, replicate, true};
+ghost use Rattle.std.specs.Arc.{arc_value};
 ghost use Rattle.std.specs.List.{list_any};
 ghost use Rattle.ca_text.specs.Limits.{element_limit, output_limit, payload_limit};
-ghost use Rattle.ca_dbr.specs.Elements.{count_of};
+ghost use Rattle.ca_dbr.specs.Elements.{count_of, elements};
 ghost use Rattle.ca_link.specs.Calls.{IsOpen};
 ghost use Rattle.ca_link.specs.Link.{with_sent};
 ghost use Rattle.ca_wire.specs.Fields.{Fields};
@@ -12,29 +13,40 @@ ghost use Rattle.ca_model.specs.Server.{concerns, with_post};
 ghost use Rattle.ca_model.specs.Updates.{ShowsTo};
 ghost use Rattle.ca_server_circuit.specs.AtOnce.{ShowsAtOnce};
 ghost use Rattle.ca_server_circuit.specs.Concerned.{ShowsWithin, SizesAt};
-ghost use Rattle.ca_server_circuit.specs.Pumping.{PumpsEnd, PumpsOne, scalar_update};
+ghost use Rattle.ca_server_circuit.specs.Outgoing.{Grows, SendsBehind, bytes_of, end_behind};
+ghost use Rattle.ca_server_circuit.specs.Pumping.{PumpsEnd, PumpsOne, PumpsOver, scalar_update};
 ghost use Rattle.ca_server_circuit.specs.Subscribing.{events_of};
+ghost use Rattle.ca_server_circuit.specs.Posting.{stored_of};
+ghost use Rattle.ca_server_subscriptions.specs.Sharing.{IsCopy};
 ghost use Rattle.ca_server_subscriptions.specs.Subscribed.{IsAskable, is_on};
 
 use crate::end::End;
+use crate::outgoing::Outgoing;
 use crate::read::status_of;
 use crate::shown::{Shown, Zeros};
-use ca_dbr::image_size;
+use ca_dbr::{Value, image_size};
 use ca_link::Link;
 use ca_records::Record;
-use ca_server_subscriptions::Update;
+use ca_server_subscriptions::{Posted, SharedUpdate, Update};
 use ca_text::{Command, Status};
 use ca_wire::{Answered, Ioid, ScalarMessage, Wanted, update_head};
 use std::alloc::{AllocError, Global};
+use std::sync::Arc;
 
 impl End {
     /// A post to this record: each subscription that it concerns gets an update, in their
     /// order. It says whether one is on the record. Without memory for one some have it, and
     /// the end is to be closed.
     #[inline(always)]
-    pub(crate) fn post(&mut self, of: &Record, mask: u16) -> Result<bool, AllocError>
-        ensures ok { OnOk result (self.new ≡ with_post of.now.name mask
-            (record { value = of.now.value; meta = of.now.meta }) self.old) }
+    pub(crate) fn post(
+        &mut self,
+        of: &Record,
+        mask: u16,
+        shared: &Option<Arc<SharedUpdate>>,
+    ) -> Result<bool, AllocError>
+        requires { IsCopy (stored_of of.now) (option_map arc_value shared.now) }
+        ensures ok { OnOk result (self.new
+            ≡ with_post of.now.name mask (stored_of of.now) self.old) }
         ensures on { IfOk result (λ on.
             on ≡ list_any (is_on of.now.name) self.old.subscriptions) }
         ensures concerned { OnErr result
@@ -42,10 +54,20 @@ impl End {
         ensures link { self.new.link ≡ self.old.link }
         ensures channels { self.new.channels ≡ self.old.channels }
     {
-        let on = self
-            .subscriptions
-            .post(of.name(), mask, of.value(), of.meta())?;
+        let posted = Posted::of(of.value(), of.meta(), shared);
+        let on = self.subscriptions.post(of.name(), mask, &posted)?;
         Ok(on)
+    }
+
+    /// A copy of this record's value that circuits share, with the image that the first
+    /// subscription on it asks for. None if there is none, or no memory.
+    #[inline(never)]
+    pub(crate) fn share(&self, of: &Record) -> Option<Arc<SharedUpdate>>
+        ensures { IsCopy (stored_of of.now) (option_map arc_value result) }
+    {
+        let wanted = self.subscriptions.wanted_on(of.name())?;
+        let count = count_for(wanted.count, of.value());
+        SharedUpdate::of(self.alloc, of.value(), of.meta(), wanted.data_type, count)
     }
 
     /// A post to this record and then a pump, if they leave no more than one update in the
@@ -80,28 +102,45 @@ impl End {
         if self.subscriptions.is_idle() {
             return Ok(());
         }
-        self.pump_all()
+        let mut whole = Outgoing::sharing(self.alloc, false);
+        self.pump_all(&mut whole)
     }
 
-    /// Puts updates into the output until none may go, when some wait.
+    /// Updates leave until none may go, and all that waits with them. Without memory for the next
+    /// those before it leave, and the end is to be closed. Up to this many bytes are copied.
+    pub(crate) fn pump_over(&mut self, copied: usize, to: &mut Outgoing) -> Result<(), AllocError>
+        requires open { IsOpen self.old.link }
+        requires nothing { (to.old.before ≡ []) × (to.old.last ≡ []) }
+        ensures { PumpsOver self.old result self.new (bytes_of to.new) }
+    {
+        let pumped = self.pump_all(to);
+        to.take_last(copied, &mut self.link);
+        pumped
+    }
+
+    /// Updates go into the output, or leave with what waits there, until none may go.
     #[inline(never)]
-    fn pump_all(&mut self) -> Result<(), AllocError>
+    fn pump_all(&mut self, to: &mut Outgoing) -> Result<(), AllocError>
         requires { IsOpen self.old.link }
-        ensures { PumpsEnd self.old result self.new }
+        ensures pumps { PumpsEnd (end_behind to.old.before self.old) result
+            (end_behind to.new.before self.new) }
+        ensures grows { Grows to.old to.new }
     {
         let mut more = true;
         'pumping: while more {
-            more = self.pump_one()?;
+            more = self.pump_one(to)?;
         }
         Ok(())
     }
 
-    /// Puts one update into the output, and says whether one might go.
-    fn pump_one(&mut self) -> Result<bool, AllocError>
+    /// One update goes into the output, or leaves with what waits there. Says whether one might go.
+    fn pump_one(&mut self, to: &mut Outgoing) -> Result<bool, AllocError>
         requires { IsOpen self.old.link }
-        ensures { PumpsOne self.old result self.new }
+        ensures pumps { PumpsOne (end_behind to.old.before self.old) result
+            (end_behind to.new.before self.new) }
+        ensures grows { Grows to.old to.new }
     {
-        if self.link.is_full() {
+        if to.is_full(&self.link) {
             return Ok(false);
         }
         if self.subscriptions.is_idle() {
@@ -109,25 +148,27 @@ impl End {
         }
         // Mostly one update waits alone: it is shown without a move.
         let Some((wanted, update)) = self.subscriptions.first() else {
-            return self.pump_queued();
+            return self.pump_queued(to);
         };
-        show(self.alloc, &mut self.link, &wanted, update)?;
+        show(self.alloc, &mut self.link, to, &wanted, update)?;
         self.subscriptions.drop_first();
         Ok(true)
     }
 
-    /// Puts the next update of a queue into the output, which is not full, and says
-    /// whether there was one.
+    /// The next update of a queue goes into the output, which is not full, or leaves with what
+    /// waits there. Says whether there was one.
     #[inline(never)]
-    fn pump_queued(&mut self) -> Result<bool, AllocError>
+    fn pump_queued(&mut self, to: &mut Outgoing) -> Result<bool, AllocError>
         requires open { IsOpen self.old.link }
-        requires room { length self.old.link.output < output_limit }
-        ensures { PumpsOne self.old result self.new }
+        requires room { length (to.old.before ++ self.old.link.output) < output_limit }
+        ensures pumps { PumpsOne (end_behind to.old.before self.old) result
+            (end_behind to.new.before self.new) }
+        ensures grows { Grows to.old to.new }
     {
         let Some((wanted, update)) = self.subscriptions.take()? else {
             return Ok(false);
         };
-        show(self.alloc, &mut self.link, &wanted, &update)?;
+        show(self.alloc, &mut self.link, to, &wanted, &update)?;
         self.subscriptions.recycle(update);
         Ok(true)
     }
@@ -150,7 +191,7 @@ fn shown_size(wanted: &Wanted, shown: &Update) -> usize
     requires { IsAskable wanted.now }
     ensures { ShowsWithin wanted.now shown.now result }
 {
-    let count = count_for(wanted.count, shown);
+    let count = count_for(wanted.count, shown.value());
     let Ok(size) = image_size(wanted.data_type, count) else {
         unreachable!()
     };
@@ -161,17 +202,31 @@ fn shown_size(wanted: &Wanted, shown: &Update) -> usize
 /// Shows an update as its subscription asks: GETFAIL and zero bytes if its elements have
 /// no place in that type.
 #[inline(always)]
-fn show(alloc: Global, link: &mut Link, wanted: &Wanted, shown: &Update) -> Result<(), AllocError>
+fn show(
+    alloc: Global,
+    link: &mut Link,
+    to: &mut Outgoing,
+    wanted: &Wanted,
+    shown: &Update,
+) -> Result<(), AllocError>
     requires open { IsOpen link.old }
+    requires room { length (to.old.before ++ link.old.output) < output_limit }
     requires askable { IsAskable wanted.now }
     ensures ok { OnOk result ((m : Fields) × ShowsTo wanted.now shown.now m
-        × (link.new ≡ with_sent (m ∷ []) link.old)) }
+        × SendsBehind m to.old link.old to.new link.new) }
     ensures some { OnErr result ((m : Fields) × ShowsTo wanted.now shown.now m) }
-    ensures err { OnErr result (link.new ≡ link.old) }
+    ensures err { OnErr result ((link.new ≡ link.old) × (to.new ≡ to.old)) }
+    ensures grows { Grows to.old to.new }
 {
     match shown_scalar(wanted, shown) {
         Some(payload) => send_scalar(link, wanted, payload),
-        None => show_image(alloc, link, *wanted, shown),
+        None => {
+            let count = count_for(wanted.count, shown.value());
+            match to.shared(shown, wanted.data_type, count) {
+                Some(shared) => to.share(alloc, link, wanted.id, shared),
+                None => show_image(alloc, link, *wanted, shown),
+            }
+        }
     }
 }
 
@@ -245,7 +300,7 @@ fn show_image(
         data_type,
         count,
     } = wanted;
-    let count = count_for(count, shown);
+    let count = count_for(count, shown.value());
     let Ok(size) = image_size(data_type, count) else {
         unreachable!()
     };
@@ -312,11 +367,11 @@ fn answered(id: Ioid, status: Status, data_type: u16, count: u32) -> Answered
 }
 
 /// How many elements an update has: a count of 0 means the present count.
-fn count_for(count: u32, update: &Update) -> u32
+fn count_for(count: u32, value: &Value) -> u32
     requires { count ≤ element_limit }
-    ensures count { result ≡ (if count == 0 then count_of update.now.value else count) }
+    ensures count { result ≡ (if count == 0 then count_of (elements value.now) else count) }
     ensures limit { result ≤ element_limit }
 {
-    let present = update.value().count() as u32;
+    let present = value.count() as u32;
     if count == 0 { present } else { count }
 }

@@ -24,3 +24,4 @@ pub mod Listed
 pub mod Led
 pub mod GoneThrough
 pub mod Effects
+pub mod Emptied

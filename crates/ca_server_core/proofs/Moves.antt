@@ -86,9 +86,3 @@ pub sends-at : (v y : Server) (h : Handle) (n : ℕ) (after : Table ServerCircui
 sends-at v y h n after is le g =
     let new : Server = record v { circuits = after } in
     subst (λ (x : Server). Sends x h n new) is (sends-of v h after n (subst (λ (x : Server). n ≤ length (output_of (under x.circuits h))) (sym is) le) g)
-
--- all bytes that waited were handed over
-pub hands-at : (v y : Server) (h : Handle) (after : Table ServerCircuit) → v ≡ y → SendsIn v.circuits h (length (output_of (under v.circuits h))) after → (let new : Server = record v { circuits = after } in Sends y h (length (output_of (under y.circuits h))) new)
-hands-at v y h after is g =
-    let new : Server = record v { circuits = after } in
-    subst (λ (x : Server). Sends x h (length (output_of (under x.circuits h))) new) is (sends-of v h after (length (output_of (under v.circuits h))) (omega arith) g)

@@ -101,7 +101,7 @@ accepts v y after c r same is g = (let new : Server = record v { circuits = afte
 -- ---- bytes come and go
 
 -- an end whose link alone changed is as sound as before
-relinked-sound : (rs : List Record) (h : Handle) (e : ServerEnd) (l : LinkState) → l.input.closed ≡ false → EndIsSound rs h e → (let new : ServerEnd = record e { link = l } in EndIsSound rs h new)
+pub relinked-sound : (rs : List Record) (h : Handle) (e : ServerEnd) (l : LinkState) → l.input.closed ≡ false → EndIsSound rs h e → (let new : ServerEnd = record e { link = l } in EndIsSound rs h new)
 relinked-sound rs h e l live i = record { live = live; room = i.room; served = i.served; puts = i.puts; on = i.on; few = i.few }
 
 given-live : (now : ℕ) (bytes : List ℕ) (l : LinkState) → l.input.closed ≡ false → (with_given now bytes l).input.closed ≡ false
@@ -112,13 +112,13 @@ given-live now (b ∷ bytes) l live = live
 changed-same : (t : Circuits) (h : Handle) (e : ServerEnd) → under t h ≡ Some (Open e) → (rs : List Record) → IsSound rs t → IsSound rs (with_changed (λ (c : ServerCircuit). Open e) h t)
 changed-same t h e at rs i = sound-changed rs t h e e i at (i.ends h e at)
 
-ended-sound : (rs : List Record) (t : Circuits) (h : Handle) (w : Why) (left : List ℕ) → IsSound rs t → under t h ≡ Some (Ended w left) → IsSound rs (with_changed (λ (c : ServerCircuit). Ended w left) h t)
-ended-sound rs t h w left i at = record {
+pub ended-sound : (rs : List Record) (t : Circuits) (h : Handle) (w : Why) (was left : List ℕ) → IsSound rs t → under t h ≡ Some (Ended w was) → IsSound rs (with_changed (λ (c : ServerCircuit). Ended w left) h t)
+ended-sound rs t h w was left i at = record {
   ends = λ g x there. elim (changed-back (λ (c : ServerCircuit). Ended w left) t g h (Open x) there) [
     | inl own ↦ absurd (not-ended x w left own.1.2)
     | inr old ↦ i.ends g x old.1
   ];
-  waits = λ j r k p there there'. (let old = i.waits j r k p there there' in (old.0, changed-other (λ (c : ServerCircuit). Ended w left) t p.put.circuit h (Open old.0) old.1 (λ one. not-both (Open old.0) (Ended w left) (sym old.1 ∙ ap (λ (x : Handle). under t x) one ∙ at) old.0 w left refl refl)));
+  waits = λ j r k p there there'. (let old = i.waits j r k p there there' in (old.0, changed-other (λ (c : ServerCircuit). Ended w left) t p.put.circuit h (Open old.0) old.1 (λ one. not-both (Open old.0) (Ended w was) (sym old.1 ∙ ap (λ (x : Handle). under t x) one ∙ at) old.0 w was refl refl)));
 }
   where
     not-ended : (x : ServerEnd) (v : Why) (l : List ℕ) → Open x ≡ Ended v l → ⊥
@@ -140,7 +140,7 @@ sound-given rs t after h now bytes r i (inl g) = by g.0 g.1 r g.2 g.3 g.4
         (sound-changed rs t h e (record e { link = with_given now bytes e.link }) i there (relinked-sound rs h e (with_given now bytes e.link) (given-live now bytes e.link (i.ends h e there).live) (i.ends h e there)))
     by (Open e) new (Err refusal.OutOfMemory) there did changed = at new (Open e) did.1 changed (changed-same t h e there rs i)
     by (Open e) new (Err _) there did changed = absurd did
-    by (Ended w left) new r there did changed = at new (Ended w left) did.1 changed (ended-sound rs t h w left i there)
+    by (Ended w left) new r there did changed = at new (Ended w left) did.1 changed (ended-sound rs t h w left left i there)
 
 pub sound-sent : (rs : List Record) (t after : Circuits) (h : Handle) (n : ℕ) → IsSound rs t → SendsIn t h n after → IsSound rs after
 sound-sent rs t after h n i (inr none) = subst (λ (x : Circuits). IsSound rs x) (sym none.1) i
@@ -153,7 +153,7 @@ sound-sent rs t after h n i (inl g) = by g.0 g.1 g.2 g.3 g.4
     by (Open e) new there did changed =
         at new (Open (record e { link = with_handed n e.link })) did changed
         (sound-changed rs t h e (record e { link = with_handed n e.link }) i there (relinked-sound rs h e (with_handed n e.link) (i.ends h e there).live (i.ends h e there)))
-    by (Ended w left) new there did changed = at new (Ended w left) did changed (ended-sound rs t h w left i there)
+    by (Ended w left) new there did changed = at new (Ended w left) did changed (ended-sound rs t h w left left i there)
 
 -- each circuit is live
 pub sound-live : (rs : List Record) (t : Circuits) → IsSound rs t → AreLive t

@@ -29,7 +29,7 @@ abbrev Circuits : Type 0
 Circuits = Table ServerCircuit
 
 -- the circuits are the same
-same-thins : (t u : Circuits) → u ≡ t → Thins t u
+pub same-thins : (t u : Circuits) → u ≡ t → Thins t u
 same-thins t u is = subst (λ (z : Circuits). Thins t z) (sym is) (thins-same t)
 
 pub thins-given : (t after : Circuits) (h : Handle) (now : ℕ) (bytes : List ℕ) (r : Result (Unit {0}) Refusal) → GivesIn t h now bytes r after → Thins t after

@@ -1,11 +1,13 @@
 //! A record has a new value from outside: it reaches the subscriptions on the record, on all
 //! circuits.
-ghost use Rattle.std.specs.Prelude.{◌≡◌, Bool, false};
+ghost use Rattle.std.specs.Prelude.{◌≡◌, Bool, false, option_map};
+ghost use Rattle.std.specs.Arc.{arc_value};
 ghost use Rattle.ca_arena.specs.declared.handle.Handle.{Handle};
 ghost use Rattle.ca_dbr.specs.Elements.{elements};
 ghost use Rattle.ca_ids.specs.Table.{under};
 ghost use Rattle.ca_model.specs.ServerCalls.{Posts};
 ghost use Rattle.ca_records.specs.Store.{IsThere, records_of};
+ghost use Rattle.ca_server_circuit.specs.Posting.{IsCopyAt};
 ghost use Rattle.ca_server_core.specs.Covering.{AreListed, Covers};
 ghost use Rattle.ca_server_core.specs.Reaching.{IsListed, PostsIn, ReachesFrom, ReachesNext};
 ghost use Rattle.ca_server_core.specs.Reaching.{WatchesIn};
@@ -17,8 +19,10 @@ use ca_dbr::{Meta, Value};
 use ca_ids::HeldTable;
 use ca_records::ServedRecords;
 use ca_server_circuit::Circuit;
+use ca_server_subscriptions::{SHARED_COUNT, SharedUpdate};
 use ca_server_watchers::Watchers;
 use ca_text::Refusal;
+use std::sync::Arc;
 
 impl ServerCore {
     /// The record of this name has this value from now on, with its alarm and its time stamp. It
@@ -97,13 +101,34 @@ fn post_to_watching(
     let Some(circuit) = watchers.last(records.at(place).state().name(), &mut before) else {
         return;
     };
-    post_to_this(circuits, records, watchers, place, mask, before, circuit);
+    let shared = share_on(circuits, records, circuit, place, before);
+    post_to_this(circuits, records, watchers, place, mask, &shared, before, circuit);
     // The last circuit is mostly the only one.
     let mut left = before;
     'posting: while left > 0 {
         left -= 1;
-        post_to_one(circuits, records, watchers, place, mask, left);
+        post_to_one(circuits, records, watchers, place, mask, &shared, left);
     }
+}
+
+/// A copy of the value of the record at this place that this circuit and so many others share, with
+/// the update that this one asks for: none if the value is small, or there are no others.
+fn share_on(
+    circuits: &HeldTable<Circuit>,
+    records: &ServedRecords,
+    circuit: Handle,
+    place: usize,
+    others: usize,
+) -> Option<Arc<SharedUpdate>>
+    requires { IsThere records.now place }
+    ensures { IsCopyAt place records.now (option_map arc_value result) }
+{
+    let record = records.at(place).state();
+    if others == 0 || record.value().count() < SHARED_COUNT {
+        return None;
+    }
+    let found = circuits.by_handle(circuit)?;
+    found.share(record)
 }
 
 /// A post reaches the circuit at this place of the list of those that watch the record.
@@ -114,9 +139,10 @@ fn post_to_one(
     watchers: &mut Watchers,
     place: usize,
     mask: u16,
+    shared: &Option<Arc<SharedUpdate>>,
     watcher: usize,
 )
-    requires there { IsThere records.old place }
+    requires copy { IsCopyAt place records.old (option_map arc_value shared.now) }
     requires sound { IsSound (records_of records.old) circuits.old }
     ensures { ReachesNext place mask watcher watchers.old circuits.old records.old watchers.new
         circuits.new records.new }
@@ -124,7 +150,7 @@ fn post_to_one(
     let Some(circuit) = watchers.at(records.at(place).state().name(), watcher) else {
         return;
     };
-    post_to_this(circuits, records, watchers, place, mask, watcher, circuit);
+    post_to_this(circuits, records, watchers, place, mask, shared, watcher, circuit);
 }
 
 /// A post reaches this circuit, which is at this place of the list. It is taken out if it no
@@ -136,15 +162,17 @@ fn post_to_this(
     watchers: &mut Watchers,
     place: usize,
     mask: u16,
+    shared: &Option<Arc<SharedUpdate>>,
     watcher: usize,
     circuit: Handle,
 )
     requires listed { IsListed place watcher circuit watchers.old records.old }
+    requires copy { IsCopyAt place records.old (option_map arc_value shared.now) }
     requires sound { IsSound (records_of records.old) circuits.old }
     ensures { ReachesNext place mask watcher watchers.old circuits.old records.old watchers.new
         circuits.new records.new }
 {
-    if post_on(circuits, records, circuit, place, mask) {
+    if post_on(circuits, records, circuit, place, mask, shared) {
         return;
     }
     watchers.forget(records.at(place).state().name(), watcher);
@@ -158,8 +186,9 @@ fn post_on(
     circuit: Handle,
     place: usize,
     mask: u16,
+    shared: &Option<Arc<SharedUpdate>>,
 ) -> bool
-    requires there { IsThere records.old place }
+    requires copy { IsCopyAt place records.old (option_map arc_value shared.now) }
     requires sound { IsSound (records_of records.old) circuits.old }
     ensures posts { PostsIn circuits.old circuit place mask records.old circuits.new records.new }
     ensures watches { WatchesIn circuits.old circuit place records.old result }
@@ -167,5 +196,5 @@ fn post_on(
     let Some(found) = circuits.by_handle_mut(circuit) else {
         return false;
     };
-    found.post(circuit, place, mask, records)
+    found.post(circuit, place, mask, shared, records)
 }

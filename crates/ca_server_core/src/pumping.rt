@@ -1,8 +1,10 @@
 //! Updates that wait on a circuit move into its output.
-ghost use Rattle.std.specs.Prelude.{List};
+ghost use Rattle.std.specs.Prelude.{◌≡◌, [], List};
+ghost use Rattle.ca_model.specs.Server.{Server};
 ghost use Rattle.ca_model.specs.ServerSteps.{Pumps, Update};
 ghost use Rattle.ca_records.specs.Store.{records_of};
-ghost use Rattle.ca_server_core.specs.Pumping.{PumpsIn};
+ghost use Rattle.ca_server_circuit.specs.Outgoing.{bytes_of};
+ghost use Rattle.ca_server_core.specs.Pumping.{HandsOver, PumpsIn, PumpsOverIn};
 ghost use Rattle.ca_server_core.specs.Sound.{IsSound};
 
 use crate::server::ServerCore;
@@ -10,7 +12,7 @@ use ca_arena::Handle;
 use ca_ids::HeldTable;
 use ca_link::Spares;
 use ca_records::ServedRecords;
-use ca_server_circuit::Circuit;
+use ca_server_circuit::{Circuit, Outgoing};
 
 impl ServerCore {
     /// Puts updates that wait on a circuit after what waits to be sent, until none may go: none is
@@ -28,6 +30,50 @@ impl ServerCore {
             circuit,
         );
     }
+
+    /// Updates that wait on a circuit leave their queues, as by `pump`, and then all bytes leave the
+    /// circuit, those that wait or that its end left, in place of what is there. Up to this many
+    /// bytes are copied, and more come with their memory; an image that several circuits send is
+    /// not copied. There are none if the circuit is not there.
+    ///
+    /// If there is no memory for the next update, the end of the circuit has ended. A step reports
+    /// that.
+    pub fn pump_over(&mut self, circuit: Handle, copied: usize, to: &mut Outgoing)
+        ensures { (updates : List Update) × ((mid : Server) × Pumps self.old circuit updates mid
+            × HandsOver mid circuit (bytes_of to.new) self.new) }
+    {
+        to.clear();
+        pump_over_on(
+            &mut self.circuits,
+            &mut self.spares,
+            &mut self.records,
+            circuit,
+            copied,
+            to,
+        );
+    }
+}
+
+/// Updates leave the queues of a circuit's end, if it is open, and all bytes leave it.
+fn pump_over_on(
+    circuits: &mut HeldTable<Circuit>,
+    spares: &mut Spares,
+    records: &mut ServedRecords,
+    circuit: Handle,
+    copied: usize,
+    to: &mut Outgoing,
+)
+    requires sound { IsSound (records_of records.old) circuits.old }
+    requires nothing { (to.old.before ≡ []) × (to.old.last ≡ []) }
+    ensures { PumpsOverIn circuits.old circuit records.old circuits.new records.new
+        (bytes_of to.new) }
+{
+    let Some(found) = circuits.by_handle_mut(circuit) else {
+        return;
+    };
+    found.borrow_from(spares);
+    found.pump_over(circuit, records, copied, to);
+    found.give_back(spares);
 }
 
 /// Pumps the end of a circuit, if it is open.

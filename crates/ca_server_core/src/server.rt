@@ -15,7 +15,6 @@ use ca_records::{Records, Rule, ServedRecords};
 use ca_server_circuit::Circuit;
 use ca_server_watchers::Watchers;
 use ca_text::Refusal;
-use ca_wire::Pipe;
 use std::alloc::{AllocError, Global};
 use std::marker::Model;
 
@@ -139,17 +138,6 @@ impl ServerCore {
         sent_on(&mut self.circuits, &mut self.spares, circuit, n);
     }
 
-    /// All bytes that wait on a circuit are handed over, in place of those that are there, whose
-    /// memory serves for more: none wait if its end is not open. Nothing is copied, and it does not
-    /// allocate.
-    pub fn hand_over(&mut self, circuit: Handle, to: &mut Pipe)
-        ensures handed { to.new ≡ output_of (under self.old.circuits circuit) }
-        ensures left { Sends self.old circuit
-            (length (output_of (under self.old.circuits circuit))) self.new }
-    {
-        hand_over_on(&mut self.circuits, &mut self.spares, circuit, to);
-    }
-
     /// Writes that are applied from now on have this time stamp: seconds since 1990-01-01 00:00:00
     /// UTC, and nanoseconds.
     pub fn stamp(&mut self, seconds: u32, nanos: u32)
@@ -218,24 +206,5 @@ fn sent_on(circuits: &mut HeldTable<Circuit>, spares: &mut Spares, circuit: Hand
         return;
     };
     found.sent(n);
-    found.give_back(spares);
-}
-
-// All bytes that wait on a circuit are handed over.
-fn hand_over_on(
-    circuits: &mut HeldTable<Circuit>,
-    spares: &mut Spares,
-    circuit: Handle,
-    to: &mut Pipe,
-)
-    ensures handed { to.new ≡ output_of (under circuits.old circuit) }
-    ensures left { SendsIn circuits.old circuit
-        (length (output_of (under circuits.old circuit))) circuits.new }
-{
-    let Some(found) = circuits.by_handle_mut(circuit) else {
-        to.truncate(0);
-        return;
-    };
-    found.hand_over(to);
     found.give_back(spares);
 }

@@ -7,3 +7,5 @@ pub mod Owing
 pub mod Pumping
 pub mod Concerned
 pub mod Passing
+pub mod Sharing
+pub mod Keeping

@@ -3,8 +3,7 @@
 ghost use Rattle.std.specs.Prelude.{None, Option, ◌≡◌, ◌<◌, ◌≤◌, ◌*◌, IfOk, IfSome, OnErr, OnOk};
 ghost use Rattle.std.specs.Prelude.{false, is_some, length, map, option_map, true};
 ghost use Rattle.std.specs.List.{list_any};
-ghost use Rattle.ca_text.specs.Limits.{circuit_queues, element_limit, queue_subscriptions};
-ghost use Rattle.ca_dbr.specs.Elements.{count_of, elements};
+ghost use Rattle.ca_text.specs.Limits.{circuit_queues, queue_subscriptions};
 ghost use Rattle.ca_queue.specs.Circuit.{RestBefore};
 ghost use Rattle.ca_queue.specs.Keys.{same};
 ghost use Rattle.ca_queue.specs.Queue.{switched};
@@ -19,9 +18,9 @@ ghost use Rattle.ca_server_subscriptions.specs.Subscribed.{AreKnown, HasRoom, Is
 ghost use Rattle.ca_server_subscriptions.specs.Subscribed.{after_post, has_key, is_of_sid, is_on};
 ghost use Rattle.ca_server_subscriptions.specs.Subscribed.{none_yet, without_those};
 
+use crate::posted::Posted;
 use crate::subscriptions::Subscriptions;
 use crate::update::Update;
-use ca_dbr::{Meta, Value};
 use ca_queue::SubKey;
 use ca_wire::{Sid, Wanted};
 use std::alloc::{AllocError, Global};
@@ -154,12 +153,9 @@ impl SubscriptionsAtNeed {
         &mut self,
         name: &[u8],
         mask: u16,
-        value: &Value,
-        meta: &Meta,
+        posted: &Posted,
     ) -> Result<bool, AllocError>
-        requires { count_of (elements value.now) ≤ element_limit }
-        ensures ok { OnOk result (self.new ≡ after_post name.now mask
-            (record { value = elements value.now; meta = meta.now }) self.old) }
+        ensures ok { OnOk result (self.new ≡ after_post name.now mask posted.now self.old) }
         ensures on { IfOk result (λ on.
             on ≡ list_any (is_on name.now) self.old.subscriptions) }
         ensures err { OnErr result
@@ -167,8 +163,18 @@ impl SubscriptionsAtNeed {
         ensures stay { OnErr result (self.new.subscriptions ≡ self.old.subscriptions) }
     {
         match &mut self.kept {
-            Some(subscriptions) => subscriptions.post(name, mask, value, meta),
+            Some(subscriptions) => subscriptions.post(name, mask, posted),
             None => Ok(false),
+        }
+    }
+
+    /// What the first subscription on the record of this name asked for, if there is one.
+    pub fn wanted_on(&self, name: &[u8]) -> Option<Wanted>
+        ensures { IfSome result (λ w. IsAskable w) }
+    {
+        match &self.kept {
+            Some(subscriptions) => subscriptions.wanted_on(name),
+            None => None,
         }
     }
 

@@ -8,12 +8,16 @@ mod at_need;
 mod by_channel;
 mod by_record;
 mod order;
+mod posted;
 mod queued_subscription;
 mod receiver;
 mod record_subscriptions;
+mod shared_update;
 mod subscriptions;
 mod update;
 mod waiting;
 
 pub use at_need::SubscriptionsAtNeed;
+pub use posted::Posted;
+pub use shared_update::{SHARED_COUNT, SharedUpdate};
 pub use update::Update;

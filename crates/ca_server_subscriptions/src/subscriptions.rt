@@ -4,8 +4,7 @@ ghost use Rattle.std.specs.Prelude.{Option, ◌≡◌, ◌∷◌, [], ◌<◌, �
 ghost use Rattle.std.specs.Prelude.{OnOk, Some, false, true, filter, map, length, option_map};
 ghost use Rattle.std.specs.List.{fold, list_any};
 ghost use Rattle.std.specs.Map.{lookup};
-ghost use Rattle.ca_text.specs.Limits.{circuit_queues, element_limit, queue_subscriptions};
-ghost use Rattle.ca_dbr.specs.Elements.{count_of, elements};
+ghost use Rattle.ca_text.specs.Limits.{circuit_queues, queue_subscriptions};
 ghost use Rattle.ca_queue.specs.Keys.{same};
 ghost use Rattle.ca_queue.specs.Queue.{switched};
 ghost use Rattle.ca_model.specs.Server.{concerns};
@@ -24,11 +23,11 @@ ghost use Rattle.ca_server_subscriptions.specs.Subscribed.{without_those};
 
 use crate::by_channel::ByChannel;
 use crate::by_record::ByRecord;
+use crate::posted::Posted;
 use crate::queued_subscription::QueuedSubscription;
 use crate::receiver::Receiver;
 use crate::update::Update;
 use crate::waiting::Waiting;
-use ca_dbr::{Meta, Value};
 use ca_queue::SubKey;
 use ca_text::Refusal;
 use ca_wire::{Sid, Wanted};
@@ -213,12 +212,9 @@ impl Subscriptions {
         &mut self,
         name: &[u8],
         mask: u16,
-        value: &Value,
-        meta: &Meta,
+        posted: &Posted,
     ) -> Result<bool, AllocError>
-        requires { count_of (elements value.now) ≤ element_limit }
-        ensures ok { OnOk result (self.new ≡ after_post name.now mask
-            (record { value = elements value.now; meta = meta.now }) self.old) }
+        ensures ok { OnOk result (self.new ≡ after_post name.now mask posted.now self.old) }
         ensures on { IfOk result (λ on.
             on ≡ list_any (is_on name.now) self.old.subscriptions) }
         ensures err { OnErr result
@@ -228,10 +224,10 @@ impl Subscriptions {
         if let Some(receiver) = only_at(self.only_one, &self.standing, name) {
             self.next = receiver.place();
             self.queues
-                .post(slice::from_ref(&receiver), mask, value, meta)?;
+                .post(slice::from_ref(&receiver), mask, posted)?;
             return Ok(true);
         }
-        self.post_to_each(name, mask, value, meta)
+        self.post_to_each(name, mask, posted)
     }
 
     // A post to the record of this name, by the line of the record.
@@ -240,12 +236,9 @@ impl Subscriptions {
         &mut self,
         name: &[u8],
         mask: u16,
-        value: &Value,
-        meta: &Meta,
+        posted: &Posted,
     ) -> Result<bool, AllocError>
-        requires { count_of (elements value.now) ≤ element_limit }
-        ensures ok { OnOk result (self.new ≡ after_post name.now mask
-            (record { value = elements value.now; meta = meta.now }) self.old) }
+        ensures ok { OnOk result (self.new ≡ after_post name.now mask posted.now self.old) }
         ensures on { IfOk result (λ on.
             on ≡ list_any (is_on name.now) self.old.subscriptions) }
         ensures err { OnErr result
@@ -258,9 +251,19 @@ impl Subscriptions {
         };
         self.next = place_of(first, &self.standing);
         self.only_one = only_place(receivers, self.next, &self.standing, name);
-        self.queues.post(receivers, mask, value, meta)?;
+        self.queues.post(receivers, mask, posted)?;
         self.by_record.note(self.recent, self.next);
         Ok(true)
+    }
+
+    /// What the first subscription on the record of this name asked for, if there is one.
+    pub fn wanted_on(&self, name: &[u8]) -> Option<Wanted>
+        ensures { IfSome result (λ w. IsAskable w) }
+    {
+        let mut recent = self.recent;
+        let first = self.by_record.receivers(&mut recent, name).first()?;
+        let standing = self.standing.get(&first.key())?;
+        Some(standing.wanted())
     }
 
     /// An update that was shown gives its memory to the next one.

@@ -1,33 +1,44 @@
 //! A value with alarm and time stamp that waits to be sent as an EVENT_ADD update. Its memory is
-//! used again for the next one.
-ghost use Rattle.std.specs.Prelude.{◌≡◌, ◌≢◌, ◌≤◌, [], IfOk, OnErr, OnOk};
+//! used again for the next one, unless several circuits share it.
+ghost use Rattle.std.specs.Prelude.{◌≡◌, ◌≢◌, ◌≤◌, [], IfOk, IfSome, OnErr, OnOk};
+ghost use Rattle.std.specs.Arc.{arc_value};
 ghost use Rattle.ca_text.specs.Limits.{element_limit};
 ghost use Rattle.ca_dbr.specs.Elements.{count_of, elements};
+ghost use Rattle.ca_server_subscriptions.specs.Sharing.{IsUpdateOf};
 
+use crate::posted::Posted;
+use crate::shared_update::SharedUpdate;
 use ca_dbr::{Meta, Value};
 use std::alloc::{AllocError, Global};
 use std::marker::Model;
+use std::sync::Arc;
 
 /// An update that waits: a value of a record, with its alarm and its time stamp.
 #[derive(Drop)]
 pub struct Update {
-    value: Value,
-    meta: Meta,
+    kept: Kept,
+}
+
+// A value of its own, or one that it shares.
+#[derive(Drop)]
+enum Kept {
+    Own(Value, Meta),
+    Shared(Arc<SharedUpdate>),
 }
 
 impl Model for Update {
     ghost use Rattle.ca_model.specs.Speech.{Stored};
-    ghost use Rattle.ca_dbr.specs.Elements.{elements};
 
     ghost Value = { Stored };
 
     ghost use Rattle.std.specs.Prelude.{◌≤◌};
     ghost use Rattle.ca_text.specs.Limits.{element_limit};
     ghost use Rattle.ca_dbr.specs.Elements.{count_of};
+    ghost use Rattle.ca_server_subscriptions.specs.Keeping.{stored_of};
 
-    ghost view = { λ u. record { value = elements u.value; meta = u.meta } };
+    ghost view = { λ u. stored_of u.kept };
 
-    ghost invariant = { λ u. count_of (elements u.value) ≤ element_limit };
+    ghost invariant = { λ u. count_of (stored_of u.kept).value ≤ element_limit };
 }
 
 impl Update {
@@ -38,7 +49,9 @@ impl Update {
         ensures some { OnErr result (count_of (elements value.now) ≢ 0) }
     {
         match value.copy(alloc) {
-            Ok(value) => Ok(Update { value, meta }),
+            Ok(value) => Ok(Update {
+                kept: Kept::Own(value, meta),
+            }),
             Err(_) => Err(AllocError),
         }
     }
@@ -47,31 +60,50 @@ impl Update {
     pub(crate) fn copy(&self, alloc: Global) -> Result<Update, AllocError>
         ensures { IfOk result (λ u. u ≡ self.now) }
     {
-        Update::of(alloc, &self.value, self.meta)
+        match &self.kept {
+            Kept::Own(value, meta) => Update::of(alloc, value, *meta),
+            Kept::Shared(shared) => {
+                let shared = Arc::try_clone(shared)?;
+                Ok(Update {
+                    kept: Kept::Shared(shared),
+                })
+            }
+        }
     }
 
     // One without elements. It does not allocate.
     pub(crate) fn empty(alloc: Global) -> Update {
         Update {
-            value: Value::Chars(Vec::new(alloc)),
-            meta: Meta::ZERO,
+            kept: Kept::Own(Value::Chars(Vec::new(alloc)), Meta::ZERO),
         }
     }
 
-    // It is one of this value from now on, which it copies, into its own memory if
-    // that is of this type.
+    // It is what was posted from now on: it shares that, or copies it, into its own memory if that
+    // is of this type.
     #[inline(always)]
-    pub(crate) fn renew(
-        &mut self,
-        alloc: Global,
-        value: &Value,
-        meta: Meta,
-    ) -> Result<(), AllocError>
-        requires { count_of (elements value.now) ≤ element_limit }
-        ensures { OnOk result (self.new ≡ record { value = elements value.now; meta = meta }) }
+    pub(crate) fn renew(&mut self, alloc: Global, posted: &Posted) -> Result<(), AllocError>
+        ensures { OnOk result (self.new ≡ posted.now) }
     {
-        self.meta = meta;
-        copy_over(alloc, &mut self.value, value)
+        if let Kept::Own(room, meta) = &mut self.kept {
+            if posted.shared().is_none() {
+                *meta = *posted.meta();
+                return copy_over(alloc, room, posted.value());
+            }
+        }
+        self.replace(alloc, posted)
+    }
+
+    // It is what was posted from now on, in place of what it was. Without memory it is as it was.
+    #[inline(never)]
+    fn replace(&mut self, alloc: Global, posted: &Posted) -> Result<(), AllocError>
+        ensures ok { OnOk result (self.new ≡ posted.now) }
+        ensures err { OnErr result (self.new ≡ self.old) }
+    {
+        match posted.shared() {
+            Some(shared) => self.kept = Kept::Shared(Arc::try_clone(shared)?),
+            None => *self = Update::of(alloc, posted.value(), *posted.meta())?,
+        }
+        Ok(())
     }
 
     /// Its value.
@@ -79,14 +111,37 @@ impl Update {
         ensures value { elements result.now ≡ self.now.value }
         ensures limit { count_of self.now.value ≤ element_limit }
     {
-        &self.value
+        match &self.kept {
+            Kept::Own(value, _) => value,
+            Kept::Shared(shared) => shared.value(),
+        }
     }
 
     /// Its alarm and its time stamp.
     pub fn meta(&self) -> &Meta
         ensures { result.now ≡ self.now.meta }
     {
-        &self.meta
+        match &self.kept {
+            Kept::Own(_, meta) => meta,
+            Kept::Shared(shared) => shared.meta(),
+        }
+    }
+
+    /// What it shares, if that has the update in this type, of so many elements.
+    pub fn shared(&self, data_type: u16, count: u32) -> Option<&Arc<SharedUpdate>>
+        ensures shows { IfSome result (λ a. IsUpdateOf self.now (arc_value a.now).update) }
+        ensures data_type { IfSome result (λ a.
+            (arc_value a.now).update.data_type ≡ data_type) }
+        ensures count { IfSome result (λ a. (arc_value a.now).update.count ≡ count) }
+    {
+        let Kept::Shared(shared) = &self.kept else {
+            return None;
+        };
+        let update = shared.update();
+        if update.data_type() == data_type && update.count() == count {
+            return Some(shared);
+        }
+        None
     }
 }
 

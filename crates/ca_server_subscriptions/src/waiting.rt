@@ -3,9 +3,8 @@
 ghost use Rattle.std.specs.Prelude.{ℕ, ◌≡◌, ◌≤◌, [], IfOk, IfSome, OnErr, OnOk, true, not, filter};
 ghost use Rattle.std.specs.Prelude.{if◌then◌else◌, length, map, option_map, replicate, slice_get};
 ghost use Rattle.std.specs.List.{fold, list_any};
-ghost use Rattle.ca_text.specs.Limits.{circuit_queues, element_limit};
+ghost use Rattle.ca_text.specs.Limits.{circuit_queues};
 ghost use Rattle.ca_text.specs.Place.{At};
-ghost use Rattle.ca_dbr.specs.Elements.{count_of, elements};
 ghost use Rattle.ca_queue.specs.Circuit.{HasAt, HasNone, RestBefore, Takes, queue_posted};
 ghost use Rattle.ca_queue.specs.Circuit.{entry_in, without_each};
 ghost use Rattle.ca_queue.specs.Keys.{same};
@@ -19,9 +18,9 @@ ghost use Rattle.ca_server_subscriptions.specs.Owing.{AreCopies, AreEmpty, AreIn
 ghost use Rattle.ca_server_subscriptions.specs.Owing.{IsNext, LosesNext, MayBegin, addressee_of};
 ghost use Rattle.ca_server_subscriptions.specs.Owing.{keys_of, those_in, with_owed};
 
+use crate::posted::Posted;
 use crate::receiver::Receiver;
 use crate::update::Update;
-use ca_dbr::{Meta, Value};
 use ca_queue::{CircuitQueues, EventQueue, SubKey};
 use ca_text::Refusal;
 use std::alloc::{AllocError, Global};
@@ -103,14 +102,12 @@ impl Waiting {
         &mut self,
         receivers: &[Receiver],
         mask: u16,
-        value: &Value,
-        meta: &Meta,
+        posted: &Posted,
     ) -> Result<(), AllocError>
         requires placed { ArePlacedIn receivers.now self.old }
-        requires few { count_of (elements value.now) ≤ element_limit }
         ensures ok { OnOk result (self.new ≡ fold
             (λ qs r. map
-            (queue_posted r.key (record { value = elements value.now; meta = meta.now })) qs)
+            (queue_posted r.key posted.now) qs)
             self.old (filter (is_masked mask) receivers.now)) }
         ensures err { OnErr result (list_any (is_masked mask) receivers.now ≡ true) }
         ensures placed { (es : Standings) → ArePlaced es self.old → ArePlaced es self.new }
@@ -119,12 +116,12 @@ impl Waiting {
             return Ok(());
         }
         if !are_in_order(receivers) {
-            return self.post_behind(receivers, mask, value, meta);
+            return self.post_behind(receivers, mask, posted);
         }
         if !nothing_waits(self.events_on, self.empty, &self.owed) {
-            return self.post_behind(receivers, mask, value, meta);
+            return self.post_behind(receivers, mask, posted);
         }
-        self.update.renew(self.alloc, value, *meta)?;
+        self.update.renew(self.alloc, posted)?;
         if let Err(_) = owe(&mut self.owed, receivers, mask) {
             self.owed.clear();
             return Err(AllocError);
@@ -139,20 +136,18 @@ impl Waiting {
         &mut self,
         receivers: &[Receiver],
         mask: u16,
-        value: &Value,
-        meta: &Meta,
+        posted: &Posted,
     ) -> Result<(), AllocError>
         requires placed { ArePlacedIn receivers.now self.old }
-        requires few { count_of (elements value.now) ≤ element_limit }
         ensures ok { OnOk result (self.new ≡ fold
             (λ qs r. map
-            (queue_posted r.key (record { value = elements value.now; meta = meta.now })) qs)
+            (queue_posted r.key posted.now) qs)
             self.old (filter (is_masked mask) receivers.now)) }
         ensures err { OnErr result (list_any (is_masked mask) receivers.now ≡ true) }
         ensures placed { (es : Standings) → ArePlaced es self.old → ArePlaced es self.new }
     {
         'posting: for i in 0..receivers.len() {
-            self.put_behind(&receivers[i], mask, value, meta)?;
+            self.put_behind(&receivers[i], mask, posted)?;
         }
         Ok(())
     }
@@ -162,13 +157,11 @@ impl Waiting {
         &mut self,
         receiver: &Receiver,
         mask: u16,
-        value: &Value,
-        meta: &Meta,
+        posted: &Posted,
     ) -> Result<(), AllocError>
         requires has { HasAt self.old receiver.now.queue receiver.now.key }
-        requires few { count_of (elements value.now) ≤ element_limit }
         ensures ok { OnOk result (self.new ≡ (if is_masked mask receiver.now then map
-            (queue_posted receiver.now.key (record { value = elements value.now; meta = meta.now }))
+            (queue_posted receiver.now.key posted.now)
             self.old else self.old)) }
         ensures masked { OnErr result (is_masked mask receiver.now ≡ true) }
         ensures err { OnErr result (self.new ≡ self.old) }
@@ -178,7 +171,7 @@ impl Waiting {
         }
         settle(self.alloc, &mut self.queues, &mut self.owed, &self.update)?;
         self.empty = false;
-        self.update.renew(self.alloc, value, *meta)?;
+        self.update.renew(self.alloc, posted)?;
         let update = mem::replace(&mut self.update, Update::empty(self.alloc));
         self.queues.post(receiver.queue(), receiver.key(), update);
         Ok(())

@@ -1,4 +1,4 @@
-use Rattle.ca_server.proofs.CountedCalls.{accepts, adds, beacons, cuts, gives, posts, pumps, removes, sends, stamps}
+use Rattle.ca_server.proofs.CountedCalls.{accepts, adds, beacons, cuts, gives, hands, posts, pumps, removes, sends, stamps}
 use Rattle.ca_server.proofs.counts.other_calls_count_nothing.Goals as goal
 
 pub returns : goal.returns
@@ -6,6 +6,7 @@ returns c = record {
   accepts = accepts;
   gives = gives;
   sends = sends;
+  hands = hands;
   cuts = cuts;
   pumps = pumps;
   stamps = stamps;

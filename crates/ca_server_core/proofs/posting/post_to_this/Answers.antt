@@ -5,9 +5,6 @@ use Rattle.ca_server_watchers.specs.Watching.{LeavesAt}
 use Rattle.ca_server_core.proofs.Idle.{posts-nothing, reaches-off, reaches-on}
 use Rattle.ca_server_core.proofs.posting.post_to_this.Goals as goal
 
-pub post_on-requires-clause-there : goal.post_on-requires-clause-there
-post_on-requires-clause-there c = (c.requires.listed.0, c.requires.listed.1)
-
 pub at-requires : goal.at-requires
 at-requires c =
     let idle = posts-nothing c.args.circuits.now c.post_on.new.circuits c.args.circuit c.args.place c.args.mask c.args.records.now c.post_on.new.records c.post_on.result c.if-post_on.false c.post_on.ensures.watches c.post_on.ensures.posts in

@@ -1,14 +1,19 @@
 use Rattle.std.proofs.Common.{◌≡◌, ℕ, ◌+◌, ◌-◌, ◌<◌, List, length, slice_get, refl, sym, ap, ◌∙◌, subst, arith}
+use Rattle.std.specs.Prelude.{option_map}
+use Rattle.std.specs.Arc.{arc_value}
+use Rattle.ca_records.specs.Puts.{Record}
 use Rattle.ca_records.specs.Record.{RecordState}
 use Rattle.ca_records.specs.Store.{records_of}
 use Rattle.ca_text.specs.Place.{At}
 use Rattle.ca_text.proofs.Places.{At-within}
 use Rattle.ca_server_watchers.specs.Watching.{AreApart, Watched, watching}
+use Rattle.ca_server_subscriptions.specs.Sharing.{IsCopy}
+use Rattle.ca_server_circuit.specs.Posting.{stored_of}
 use Rattle.ca_server_core.specs.Covering.{AreListed, Covers}
 use Rattle.ca_server_core.specs.Reaching.{ReachesNext}
 use Rattle.ca_server_core.proofs.Idle.{none-last}
 use Rattle.ca_server_core.proofs.Listed.{listed-walked}
-use Rattle.ca_server_core.proofs.Reached.{walk-begins, walk-ends, walk-next}
+use Rattle.ca_server_core.proofs.Reached.{there-is, walk-begins, walk-ends, walk-next}
 use Rattle.ca_server_core.proofs.posting.post_to_watching.Goals as goal
 
 pub returns-in_default-clause-reaches : goal.returns-in_default-clause-reaches
@@ -56,6 +61,13 @@ posting-init c =
     (walk-begins c.args.place c.args.mask k w c.args.circuits.now c.args.records.now r c.at.ensures.at
     (subst (λ (n : List ℕ). AreApart (watching w n)) named c.last.ensures.apart) refl c.requires.sound c.requires.covered)
     c.last.new.before one c.post_to_this.new.watchers c.post_to_this.new.circuits c.post_to_this.new.records did
+
+pub post_to_one-requires-clause-copy : goal.post_to_one-requires-clause-copy
+post_to_one-requires-clause-copy c =
+    let i = c.posting.invariant in
+    let d = c.share_on-shared.ensures in
+    let one = there-is c.args.records.now c.args.place d.0 i.r d.1 i.at in
+    (i.here.0, i.here.1, subst (λ (x : RecordState). IsCopy (stored_of x) (option_map arc_value c.share_on-shared.result)) (ap (λ (x : Record). x.state) one ∙ sym i.here.2) d.2)
 
 pub posting-preserved : goal.posting-preserved
 posting-preserved c =

@@ -1,6 +1,5 @@
 use Rattle.std.proofs.Common.{◌≡◌, List, filter, map, sym, ap, ◌∙◌}
 use Rattle.std.specs.List.{fold, list_any}
-use Rattle.ca_dbr.specs.Elements.{elements}
 use Rattle.ca_model.specs.Server.{Subscription, concerns, key_of}
 use Rattle.ca_model.specs.Speech.{Stored}
 use Rattle.ca_queue.specs.Circuit.{queue_posted}
@@ -29,7 +28,7 @@ returns-in-Some-clause-ok c =
     let es = c.self.inside.standing.entries in
     let qs = c.self.inside.queues in
     let name = c.args.name.now in
-    let v : Stored = record { value = elements c.args.value.now; meta = c.args.meta.now } in
+    let v : Stored = c.args.posted.now in
     let did : c.post.new.self ≡ fold (λ (rs : List (Queue Stored)) (x : Subscription). map (queue_posted (key_of x) v) rs) qs (filter (concerns name c.args.mask) (subscriptions_in es)) =
     c.in_ok-post.ensures.ok
     ∙ ap (λ (rs : List Receiver). fold (λ (zs : List (Queue Stored)) (r : Receiver). map (queue_posted r.key v) zs) qs (filter (is_masked c.args.mask) rs)) (c.from_ref.ensures.value ∙ sym c.in-Some.ensures)

@@ -1,6 +1,5 @@
 use Rattle.std.proofs.Common.{◌≡◌, true, List, [], filter, map, sym, ap, ◌∙◌}
 use Rattle.std.specs.List.{fold, list_any}
-use Rattle.ca_dbr.specs.Elements.{elements}
 use Rattle.ca_model.specs.Server.{Subscription, concerns, key_of}
 use Rattle.ca_model.specs.Speech.{Stored}
 use Rattle.ca_queue.specs.Circuit.{queue_posted}
@@ -27,7 +26,7 @@ returns-clause-ok c =
     let es = c.self.inside.standing.entries in
     let qs = c.self.inside.queues in
     let name = c.args.name.now in
-    let v : Stored = record { value = elements c.args.value.now; meta = c.args.meta.now } in
+    let v : Stored = c.args.posted.now in
     let are = c.receivers-receivers.ensures ∙ c.self.invariant.1 name in
     let did : c.post.new.self ≡ fold (λ (rs : List (Queue Stored)) (x : Subscription). map (queue_posted (key_of x) v) rs) qs (filter (concerns name c.args.mask) (subscriptions_in es)) =
     c.in_ok-post.ensures.ok
@@ -55,7 +54,7 @@ returns-in_default-clause-ok c =
     let es = c.self.inside.standing.entries in
     let qs = c.self.inside.queues in
     let name = c.args.name.now in
-    let v : Stored = record { value = elements c.args.value.now; meta = c.args.meta.now } in
+    let v : Stored = c.args.posted.now in
     let did : qs ≡ fold (λ (rs : List (Queue Stored)) (x : Subscription). map (queue_posted (key_of x) v) rs) qs (filter (concerns name c.args.mask) (subscriptions_in es)) =
     ap (λ (rs : List Receiver). fold (λ (zs : List (Queue Stored)) (r : Receiver). map (queue_posted r.key v) zs) qs (filter (is_masked c.args.mask) rs)) (sym (none c))
     ∙ posts-all name c.args.mask v es qs c.self.invariant.0.keyed in

@@ -1,6 +1,5 @@
 use Rattle.std.proofs.Common.{◌≡◌, ◌∙◌, List, filter, map, sym, ap, subst}
 use Rattle.std.specs.List.{fold}
-use Rattle.ca_dbr.specs.Elements.{elements}
 use Rattle.ca_model.specs.Speech.{Stored}
 use Rattle.ca_queue.specs.Circuit.{queue_posted}
 use Rattle.ca_queue.specs.Queue.{Queue}
@@ -14,7 +13,7 @@ use Rattle.ca_server_subscriptions.proofs.waiting.Waiting.post.Goals as goal
 
 pub returns-then-not-is_for_any-clause-ok : goal.returns-then-not-is_for_any-clause-ok
 returns-then-not-is_for_any-clause-ok c =
-    let v : Stored = record { value = elements c.args.value.now; meta = c.args.meta.now } in
+    let v : Stored = c.args.posted.now in
     ap (λ (rs : List Receiver). fold (λ (qs : List (Queue Stored)) (r : Receiver). map (queue_posted r.key v) qs) c.args.self.now rs) (sym (nobody c.args.mask c.args.receivers.now (sym c.if-not-is_for_any.ensures)))
 
 pub returns-in_err-renew-clause-placed : goal.returns-in_err-renew-clause-placed
@@ -48,12 +47,12 @@ invariant_of-self-in_default c =
 
 -- what is seen now
 seen : (c : goal.In_default)
-    → (let v : Stored = record { value = elements c.args.value.now; meta = c.args.meta.now } in
+    → (let v : Stored = c.args.posted.now in
     with_owed c.owe.new.owed.items c.renew.new.self c.self.inside.queues
     ≡ fold (λ (qs : List (Queue Stored)) (r : Receiver). map (queue_posted r.key v) qs) c.args.self.now (filter (is_masked c.args.mask) c.args.receivers.now))
 seen c =
     let i = c.self.inside in
-    let v : Stored = record { value = elements c.args.value.now; meta = c.args.meta.now } in
+    let v : Stored = c.args.posted.now in
     let rs = filter (is_masked c.args.mask) c.args.receivers.now in
     ap (λ (xs : List Addressee). with_owed xs c.renew.new.self i.queues) c.in_default.ensures
     ∙ ap (λ (u : Stored). with_owed (map addressee_of rs) u i.queues) c.in_ok-renew.ensures
@@ -65,5 +64,5 @@ returns-clause-ok c = seen c
 
 pub returns-clause-placed : goal.returns-clause-placed
 returns-clause-placed c es p =
-    let v : Stored = record { value = elements c.args.value.now; meta = c.args.meta.now } in
+    let v : Stored = c.args.posted.now in
     subst (λ (qs : List (Queue Stored)). ArePlaced es qs) (sym (seen c)) (placed-all es v (filter (is_masked c.args.mask) c.args.receivers.now) c.args.self.now p)

@@ -1,4 +1,3 @@
-use Rattle.ca_dbr.specs.Elements.{elements}
 use Rattle.ca_model.specs.Speech.{Stored}
 use Rattle.ca_server_subscriptions.proofs.Receivers.{has-in, index-at, placed-posted, posts-next}
 use Rattle.ca_server_subscriptions.specs.ByRecord.{is_masked}
@@ -11,7 +10,7 @@ put_behind-requires-clause-has c =
 
 pub posting-preserved : goal.posting-preserved
 posting-preserved c =
-    let v : Stored = record { value = elements c.args.value.now; meta = c.args.meta.now } in
+    let v : Stored = c.args.posted.now in
     let r = c.index-receivers-i.result in (
       posts-next c.args.receivers.now c.posting.i r c.args.mask v c.posting.self c.put_behind.new.self _
           (index-at c.args.receivers.now c.posting.i r c.posting-test.true c.index-receivers-i.is) c.posting.invariant.0 c.in_ok-put_behind.ensures.ok,

@@ -1,0 +1,123 @@
+-- Updates leave an end, some of whose bytes have left already.
+use Rattle.std.proofs.Common.{◌≡◌, ℕ, ◌≤◌, true, false, Bool, List, [], ◌∷◌, ◌++◌, length, Result, Ok, Err, refl, sym, ap, ◌∙◌, subst}
+use Rattle.std.proofs.lemmas.List.{append-nil, append_assoc, drop_all}
+use Rattle.std.specs.Prelude.{OnErr, OnOk, drop}
+use Rattle.std.specs.List.{FoldsTo}
+use Rattle.std.specs.declared.alloc.AllocError.{AllocError}
+use Rattle.ca_text.specs.Limits.{output_limit}
+use Rattle.ca_text.specs.Status.{normal}
+use Rattle.ca_dbr.specs.Image.{image}
+use Rattle.ca_dbr.specs.Shown.{shown}
+use Rattle.ca_link.specs.Link.{LinkState, with_handed, with_sent}
+use Rattle.ca_wire.specs.Fields.{Fields}
+use Rattle.ca_wire.specs.Message.{spelled, spelling}
+use Rattle.ca_wire.specs.Messages.{update}
+use Rattle.ca_wire.specs.declared.requests.Wanted.{Wanted}
+use Rattle.ca_model.specs.Server.{ServerEnd}
+use Rattle.ca_model.specs.ServerSteps.{Leaves, Rests, Update}
+use Rattle.ca_model.specs.Speech.{Stored}
+use Rattle.ca_model.specs.Updates.{ShowsTo, update_count}
+use Rattle.ca_server_subscriptions.specs.Sharing.{IsUpdateOf}
+use Rattle.ca_server_circuit.specs.Outgoing.{Grows, OutgoingState, SendsBehind, addressed, behind, bytes_of, emptied_end, end_behind}
+use Rattle.ca_server_circuit.specs.Pumping.{PumpsEnd, PumpsOne, PumpsOver}
+use Rattle.ca_server_circuit.proofs.Pumps.{rests-full, shows-update}
+
+-- ---- what a call answers
+
+pub ok-both : {P Q R : Type 0} (r : Result (Unit {0}) AllocError) → (P → Q → R) → OnOk r P → OnOk r Q → OnOk r R
+ok-both (Ok u) f p q = f p q
+ok-both (Err e) f p q = tt
+
+pub err-both : {P Q R : Type 0} (r : Result (Unit {0}) AllocError) → (P → Q → R) → OnErr r P → OnErr r Q → OnErr r R
+err-both (Ok u) f p q = tt
+err-both (Err e) f p q = f p q
+
+-- ---- how more leaves
+
+pub grows-same : (o : OutgoingState) → Grows o o
+grows-same o = record { last = refl; shares = refl; whole = λ e. refl }
+
+pub grows-then : (a b c : OutgoingState) → Grows a b → Grows b c → Grows a c
+grows-then a b c p q = record {
+  last = q.last ∙ p.last;
+  shares = q.shares ∙ p.shares;
+  whole = λ e. q.whole (p.shares ∙ e) ∙ p.whole e;
+}
+
+pub grows-is : (a b : OutgoingState) → b ≡ a → Grows a b
+grows-is a b is = subst (λ (o : OutgoingState). Grows a o) (sym is) (grows-same a)
+
+true-false : {A : Type 0} (b : Bool) → b ≡ true → b ≡ false → A
+true-false b on off = absurd cc
+
+pub grows-shared : (a b : OutgoingState) (before : List ℕ) → a.shares ≡ true → b ≡ record a { before = before } → Grows a b
+grows-shared a b before on is =
+    subst (λ (o : OutgoingState). Grows a o) (sym is) (record { last = refl; shares = refl; whole = λ e. true-false a.shares on e })
+
+pub grows-by : (r : Result (Unit {0}) AllocError) (a b : OutgoingState) (before : List ℕ) → a.shares ≡ true → OnOk r (b ≡ record a { before = before }) → OnErr r (b ≡ a) → Grows a b
+grows-by (Ok u) a b before on is same = grows-shared a b before on is
+grows-by (Err e) a b before on is same = grows-is a b same
+
+-- ---- the message behind all others
+
+pub sends-behind : (m : Fields) (o : OutgoingState) (l k : LinkState) → k ≡ with_sent (m ∷ []) l → SendsBehind m o l o k
+sends-behind m o l k is =
+    ap (λ (x : LinkState). behind o.before x) is
+    ∙ ap (λ (out : List ℕ). let x : LinkState = record l { output = out } in x) (sym (append_assoc o.before l.output (spelled (m ∷ []))))
+
+pub stays-behind : (o n : OutgoingState) (l k : LinkState) → (k ≡ l) × (n ≡ o) → behind n.before k ≡ behind o.before l
+stays-behind o n l k same = ap (λ (x : OutgoingState). behind x.before k) same.1 ∙ ap (λ (x : LinkState). behind o.before x) same.0
+
+pub shares-behind : (m : Fields) (o n : OutgoingState) (l k : LinkState) → n ≡ record o { before = o.before ++ (l.output ++ spelling m) } → k ≡ with_handed (length l.output) l → SendsBehind m o l n k
+shares-behind m o n l k taken handed =
+    let more : List ℕ = l.output ++ spelling m in
+    ap (λ (x : OutgoingState). behind x.before k) taken
+    ∙ ap (λ (x : LinkState). behind (o.before ++ more) x) handed
+    ∙ ap (λ (out : List ℕ). let x : LinkState = record l { output = out } in x) (
+      ap (λ (rest : List ℕ). (o.before ++ more) ++ rest) (drop_all l.output)
+      ∙ append-nil (o.before ++ more)
+      ∙ sym (append_assoc o.before l.output (spelling m))
+      ∙ ap (λ (s : List ℕ). (o.before ++ l.output) ++ s) (sym (append-nil (spelling m)))
+    )
+
+-- what is shared, to a subscription that asks for it
+pub shows-shared : (w : Wanted) (v : Stored) (m : Fields) → IsUpdateOf v m → m.data_type ≡ w.data_type → m.count ≡ update_count w v → ShowsTo w v (addressed w.id m)
+shows-shared w v m is typed counted =
+    let t = is.0 in
+    let e = is.2.0 in
+    shows-update w v t (is.1 ∙ typed) e (addressed w.id m) (ap (λ (k : ℕ). shown v.value k t.base) (sym counted) ∙ is.2.1)
+    (ap (λ (x : Fields). addressed w.id x) is.2.2
+    ∙ ap (λ (k : ℕ). update k m.count normal w.id (image t e v.meta)) typed
+    ∙ ap (λ (k : ℕ). update w.data_type k normal w.id (image t e v.meta)) counted)
+
+-- ---- ends
+
+pub full-one : (v e : ServerEnd) (b : List ℕ) → v ≡ e → output_limit ≤ length (b ++ v.link.output) → PumpsOne (end_behind b e) (Ok false) (end_behind b e)
+full-one v e b is full = subst (λ (x : ServerEnd). PumpsOne (end_behind b x) (Ok false) (end_behind b x)) is (rests-full (end_behind b v) full, refl)
+
+-- nothing left before, and nothing is shared
+pub pumps-whole : (old new : ServerEnd) (r : Result (Unit {0}) AllocError) (o n : OutgoingState) → (let none : List ℕ = [] in o ≡ record { before = none; last = none; shares = false }) → Grows o n → PumpsEnd (end_behind o.before old) r (end_behind n.before new)
+    → PumpsEnd old r new
+pumps-whole old new r o n is grows did =
+    let none : o.before ≡ [] = ap (λ (x : OutgoingState). x.before) is in
+    let same : n.before ≡ [] = grows.whole (ap (λ (x : OutgoingState). x.shares) is) ∙ none in
+    subst (λ (b : List ℕ). PumpsEnd old r (end_behind b new)) same (subst (λ (b : List ℕ). PumpsEnd (end_behind b old) r (end_behind n.before new)) none did)
+
+emptied-so : (b : List ℕ) (e : ServerEnd) → (let x : ServerEnd = record e { link = with_handed (length e.link.output) e.link } in x) ≡ emptied_end (end_behind b e)
+emptied-so b e =
+    ap (λ (out : List ℕ). let l : LinkState = record e.link { output = out } in let x : ServerEnd = record e { link = l } in x) (drop_all e.link.output ∙ sym (drop_all (b ++ e.link.output)))
+
+-- all that waits leaves at the end
+pub pumps-over : (old mid new : ServerEnd) (r : Result (Unit {0}) AllocError) (o n last : OutgoingState) (k : LinkState) → (let none : List ℕ = [] in (o.before ≡ none) × (o.last ≡ none)) → Grows o n → PumpsEnd (end_behind o.before old) r (end_behind n.before mid)
+    → last ≡ record n { last = mid.link.output } → k ≡ with_handed (length mid.link.output) mid.link → new ≡ record mid { link = k } → PumpsOver old r new (bytes_of last)
+pumps-over old mid new r o n last k nothing grows did taken handed is =
+    subst (λ (out : List ℕ). PumpsOver old r new out) (sym (ap bytes_of taken))
+    (subst (λ (x : ServerEnd). PumpsOver old r x (n.before ++ mid.link.output)) (sym (is ∙ ap (λ (l : LinkState). let x : ServerEnd = record mid { link = l } in x) handed))
+    (by r (subst (λ (b : List ℕ). PumpsEnd (end_behind b old) r (end_behind n.before mid)) nothing.0 did)))
+  where
+    abbrev left : ServerEnd
+    left = record mid { link = with_handed (length mid.link.output) mid.link }
+
+    by : (r : Result (Unit {0}) AllocError) → PumpsEnd old r (end_behind n.before mid) → PumpsOver old r left (n.before ++ mid.link.output)
+    by (Ok u) (us, f, rests) = (us, end_behind n.before mid, f, rests, refl, emptied-so n.before mid)
+    by (Err e) (us, after, f, more, out, channels) = (us, after, f, more, out, drop_all mid.link.output, channels)
