@@ -324,13 +324,13 @@ fn take_out<L: Ledger>(
         locked.closed = locked.closed.saturating_add(1);
         return Turn::Closed(left);
     }
-    let is_pumped = locked.state.out_bytes(circuit).len() < OUTPUT_LIMIT;
+    let is_pumped = locked.state.core().out_bytes(circuit).len() < OUTPUT_LIMIT;
     let is_all = socket.take_out(&mut locked.state, circuit)
-        || locked.state.out_bytes(circuit).is_empty();
+        || locked.state.core().out_bytes(circuit).is_empty();
     let is_idle = matches!(turn, Turn::Idle)
         && is_pumped
         && is_all
-        && locked.state.is_open(circuit);
+        && locked.state.core().is_open(circuit);
     locked.rest(circuit, is_idle);
     match turn {
         Turn::Idle if !is_idle => Turn::Busy,

@@ -261,7 +261,7 @@ impl CircuitSocket {
         self.output.truncate(0);
         self.written = 0;
         self.is_taken = true;
-        let waiting = state.out_bytes(circuit);
+        let waiting = state.core().out_bytes(circuit);
         let count = waiting.len();
         if self.own.is_some() && count <= ROOM && self.output.push(waiting).is_ok() {
             state.sent(circuit, count);
