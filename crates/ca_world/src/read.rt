@@ -15,7 +15,7 @@ use crate::world::World;
 use ca_text::Refusal;
 use ca_wire::read_request;
 use ca_world_data::client::ClientSide;
-use ca_world_data::history::{Ask, Intent, Kind, Line, Sent, Wish};
+use ca_world_data::history::{Ask, Intent, Kind, Line, Wish};
 use ca_world_data::joined::Joined;
 use ca_world_data::logs::{note, push_line};
 use ca_world_data::way::{prepare, push_sent, wanted_on};
@@ -118,14 +118,7 @@ fn read_carried(
             let wanted = wanted_on(way.sid, request, data_type, count);
             let message = read_request(alloc, wanted);
             side.names.requests.push_reserved((request, meant));
-            push_sent(
-                circuits,
-                way.circuit,
-                Sent {
-                    message,
-                    intent: meant,
-                },
-            );
+            push_sent(circuits, way.circuit, message, meant);
             push_line(
                 logs,
                 side.life,

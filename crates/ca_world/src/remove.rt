@@ -13,7 +13,7 @@ ghost use Rattle.ca_world_servers.specs.Removing.{AllSeated, Becomes, RemovesAt,
 
 use crate::world::World;
 use ca_text::Refusal;
-use ca_world_data::entries::push_some;
+use ca_world_data::entries::push_entries;
 use ca_world_data::history::LogEntry;
 use ca_world_data::joined::Joined;
 use ca_world_data::reporting::{report_ends, reserve_reports};
@@ -118,7 +118,7 @@ fn tell_removal(
         (map joined_of circuits.new.items)
         (entries_in logs.new.items) }
 {
-    push_some(logs, side.life, told);
+    push_entries(logs, side.life, told);
     lose_all(alloc, server, &side.core, circuits, leading);
     forget_record(&mut side.records, name);
     report_ends(alloc, server, side, circuits, logs);

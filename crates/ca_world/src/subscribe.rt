@@ -12,7 +12,7 @@ use crate::wide::{carried, refuse_wide};
 use crate::world::World;
 use ca_text::{Command, Mask, Refusal};
 use ca_world_data::client::ClientSide;
-use ca_world_data::history::{Ask, Intent, Line, Sent, Wish};
+use ca_world_data::history::{Ask, Intent, Line, Wish};
 use ca_world_data::joined::Joined;
 use ca_world_data::logs::{note, push_line};
 use ca_world_data::payloads::{mask_payload, with_payload};
@@ -130,14 +130,7 @@ fn subscribe_carried(
             side.names
                 .subscriptions
                 .push_reserved((subscription, meant));
-            push_sent(
-                circuits,
-                way.circuit,
-                Sent {
-                    message,
-                    intent: meant,
-                },
-            );
+            push_sent(circuits, way.circuit, message, meant);
             push_line(
                 logs,
                 side.life,

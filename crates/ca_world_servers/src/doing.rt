@@ -16,7 +16,7 @@ use crate::handling::{add_waiting, make_busy};
 use crate::parting::{Parting, keep_waiting};
 use ca_dbr::Meta;
 use ca_server_core::Effect;
-use ca_world_data::entries::{push_entry, push_some};
+use ca_world_data::entries::{push_entries, push_entry};
 use ca_world_data::history::{LogEntry, Stored};
 use ca_world_data::joined::Joined;
 use ca_world_data::numbering::{number_of, post_numbers};
@@ -215,6 +215,6 @@ fn tell_clear(side: &mut ServerSide, logs: &mut Vec<Vec<LogEntry>>, parting: Opt
         return;
     };
     let Parting { kept, told } = parting;
-    push_some(logs, side.life, told);
+    push_entries(logs, side.life, told);
     keep_waiting(&mut side.records, kept);
 }

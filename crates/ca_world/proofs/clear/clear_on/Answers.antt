@@ -46,7 +46,7 @@ returns-in-Ok-clause-clears c =
     r.named c.requires.once r.way r.numbered c.in-Ok.ensures.1
     refl
     c.tell_call.ensures
-    (subst (λ (z : history.Sent). GoesUp way.circuit z ks ks') (λ t. record { message = said t; intent = history.On ch history.Clear }) c.push_sent.ensures))
+    (subst (λ (z : history.Sent). GoesUp way.circuit z ks ks') (λ t. record { message = said t; intent = history.On ch history.Clear }) c.push_sent.ensures.goes))
 
 pub returns-in-Err-clause-clears : goal.returns-in-Err-clause-clears
 returns-in-Err-clause-clears c =

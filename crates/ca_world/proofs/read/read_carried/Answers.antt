@@ -45,7 +45,7 @@ returns-in-Ok-clause-reads c =
     r.named given r.way r.numbered c.in-Ok.ensures.1
     (λ t. record (client_of y) { core = c.read.new.self; names = record (client_of y).names { requests = named t } })
     (c.push_line.ensures ∙ ap (λ (n : ℕ). grown y.life (Called (On ch (Request history.Read n)) (history.ToRead a.data_type a.count) ∷ []) logs) number)
-    (subst (λ (z : history.Sent). GoesUp way.circuit z ks ks') (λ t. record { message = wanted t; intent = On ch (Request history.Read (number t)) }) c.push_sent.ensures))
+    (subst (λ (z : history.Sent). GoesUp way.circuit z ks ks') (λ t. record { message = wanted t; intent = On ch (Request history.Read (number t)) }) c.push_sent.ensures.goes))
 
 pub returns-in-Err-clause-reads : goal.returns-in-Err-clause-reads
 returns-in-Err-clause-reads c =

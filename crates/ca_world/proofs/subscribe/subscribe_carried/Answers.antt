@@ -48,7 +48,7 @@ returns-in-Ok-clause-subscribes c =
     r.named given r.way r.numbered c.in-Ok.ensures.1
     (λ t. record (client_of y) { core = c.subscribe.new.self; names = record (client_of y).names { subscriptions = named t } })
     (c.push_line.ensures ∙ (λ t. grown y.life (Called (On ch (history.Subscribe (number t))) (history.ToWatch a.data_type a.count (c.bits.ensures.bits t)) ∷ []) logs))
-    (subst (λ (z : history.Sent). GoesUp way.circuit z ks ks') (λ t. record { message = wanted t; intent = On ch (history.Subscribe (number t)) }) c.push_sent.ensures))
+    (subst (λ (z : history.Sent). GoesUp way.circuit z ks ks') (λ t. record { message = wanted t; intent = On ch (history.Subscribe (number t)) }) c.push_sent.ensures.goes))
 
 pub returns-in-Err-clause-subscribes : goal.returns-in-Err-clause-subscribes
 returns-in-Err-clause-subscribes c =
