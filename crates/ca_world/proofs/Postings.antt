@@ -35,7 +35,7 @@ use Rattle.ca_laws_parts.specs.WritesSteps.{AllInStep}
 use Rattle.ca_world_data.specs.declared.client.ClientSide.{ClientSide}
 use Rattle.ca_world_data.specs.declared.joined.Joined.{Joined}
 use Rattle.ca_world_data.specs.declared.server.ServerSide.{ServerSide}
-use Rattle.ca_world_data.specs.Does.{Does, MayLack}
+use Rattle.ca_world_data.specs.Does.{Does}
 use Rattle.ca_world_data.specs.Indexed.{AreIndexed, server_numbers}
 use Rattle.ca_world_data.specs.Numbering.{AllAlike, AreAlike, IsAlike, keys_within}
 use Rattle.ca_world_data.specs.Posting.{PostsAt, TellsPost}
@@ -252,9 +252,9 @@ module _ (cs : List ClientSide) (ss : List ServerSide) (ks : List Joined) (cl : 
       (λ t. record { clients = map client_of cs; servers = map server_of (slice_set ss i (is_y t)); circuits = is_k t; client_logs = cl; server_logs = is_l t; moment = m })
       ∙ (λ t. world_of cs (set-same ss i y at t) ks cl sl m)
 
-  pub post-does : MayLack (world_of cs ss ks cl sl m) (Post i name e mask) → (y' : ServerSide) (ks' : List Joined) (sl' : List (List Entry)) (r : Result (Unit {0}) Refusal) → PostsAt i name v mask y (map joined_of ks) sl r y' (map joined_of ks') sl'
+  pub post-does : (y' : ServerSide) (ks' : List Joined) (sl' : List (List Entry)) (r : Result (Unit {0}) Refusal) → PostsAt i name v mask y (map joined_of ks) sl r y' (map joined_of ks') sl'
       → Does (world_of cs ss ks cl sl m) (Post i name e mask) r (world_of cs (slice_set ss i y') ks' cl sl' m)
-  post-does may y' ks' sl' (Ok u) (gone, core, inl (posts, did)) =
+  post-does y' ks' sl' (Ok u) (gone, core, inl (posts, did)) =
       let js : List model.Joined = map joined_of ks in
       let rs : List model.RecordSide = map record_of y.records.items in
       let same = gone-agree name mask v gone y.core core posts i js in
@@ -277,10 +277,10 @@ module _ (cs : List ClientSide) (ss : List ServerSide) (ks : List Joined) (cl : 
           ),
         ),
       )
-  post-does may y' ks' sl' (Ok u) (gone, core, inr (f, other, posts, is_y, is_k, is_l)) =
+  post-does y' ks' sl' (Ok u) (gone, core, inr (f, other, posts, is_y, is_k, is_l)) =
       (there, (gone, core, inr (f, other, posts, stay y' ks' sl' is_y is_k is_l)))
-  post-does may y' ks' sl' (Err OutOfMemory) (is_y, is_k, is_l) = (may, stay y' ks' sl' is_y is_k is_l)
-  post-does may y' ks' sl' (Err _) d = absurd d
+  post-does y' ks' sl' (Err OutOfMemory) (fits, is_y, is_k, is_l) = ((there, fits), stay y' ks' sl' is_y is_k is_l)
+  post-does y' ks' sl' (Err _) d = absurd d
 
   -- circuits are found as before
   pub post-indexed : (numbers : List (List ℕ)) (y' : ServerSide) (ks' : List Joined) (sl' : List (List Entry)) (r : Result (Unit {0}) Refusal) → PostsAt i name v mask y (map joined_of ks) sl r y' (map joined_of ks') sl'
@@ -296,7 +296,7 @@ module _ (cs : List ClientSide) (ss : List ServerSide) (ks : List Joined) (cl : 
       indexed-still : (numbers : List (List ℕ)) (y' : ServerSide) (ks' : List Joined) → y' ≡ y → map joined_of ks' ≡ map joined_of ks → AreIndexed numbers (server_numbers ss) (map joined_of ks) → AreIndexed numbers (server_numbers (slice_set ss i y')) (map joined_of ks')
       indexed-still numbers y' ks' is_y is_k h =
           indexed-same numbers numbers (server_numbers ss) (server_numbers (slice_set ss i y')) (map joined_of ks) (map joined_of ks') refl (numbers-set (λ (z : ServerSide). z.circuits.items) ss i y y' at (ap (λ (z : ServerSide). z.circuits.items) is_y)) is_k h
-  post-indexed numbers y' ks' sl' (Err OutOfMemory) (is_y, is_k, is_l) h =
+  post-indexed numbers y' ks' sl' (Err OutOfMemory) (fits, is_y, is_k, is_l) h =
       indexed-same numbers numbers (server_numbers ss) (server_numbers (slice_set ss i y')) (map joined_of ks) (map joined_of ks') refl (numbers-set (λ (z : ServerSide). z.circuits.items) ss i y y' at (ap (λ (z : ServerSide). z.circuits.items) is_y)) is_k h
   post-indexed numbers y' ks' sl' (Err _) d h = absurd d
 

@@ -43,7 +43,7 @@ use Rattle.ca_world_data.specs.declared.history.LogEntry.{LogEntry as LogEntry}
 use Rattle.ca_world_data.specs.declared.joined.Joined.{Joined}
 use Rattle.ca_world_data.specs.declared.server.RecordSide.{RecordSide}
 use Rattle.ca_world_data.specs.declared.server.ServerSide.{ServerSide}
-use Rattle.ca_world_data.specs.Does.{Does, MayLack}
+use Rattle.ca_world_data.specs.Does.{Does}
 use Rattle.ca_world_data.specs.Indexed.{AreIndexed, server_numbers}
 use Rattle.ca_world_data.specs.Reporting.{AreServed, waits}
 use Rattle.ca_world_data.specs.Seen.{client_of, joined_of, place_of, record_of, server_of}
@@ -357,9 +357,9 @@ module _ (cs : List ClientSide) (ss : List ServerSide) (ks : List Joined) (cl : 
   abbrev Did : ServerSide → List Joined → List (List Entry) → Result (Unit {0}) Refusal → Type 0
   Did y' ks' sl' r = RemovesAt i name y (map joined_of ks) sl r y' (map joined_of ks') sl'
 
-  pub remove-does : MayLack (world_of cs ss ks cl sl m) (Remove i name) → (y' : ServerSide) (ks' : List Joined) (sl' : List (List Entry)) (r : Result (Unit {0}) Refusal) → Did y' ks' sl' r
+  pub remove-does : (y' : ServerSide) (ks' : List Joined) (sl' : List (List Entry)) (r : Result (Unit {0}) Refusal) → Did y' ks' sl' r
       → Does (world_of cs ss ks cl sl m) (Remove i name) r (world_of cs (slice_set ss i y') ks' cl sl' m)
-  remove-does may y' ks' sl' (Ok u) (gone, left, core, inl (removes, did)) =
+  remove-does y' ks' sl' (Ok u) (gone, left, core, inl (removes, did)) =
       let js : List model.Joined = map joined_of ks in
       let f : model.Joined → model.Joined = removed_at i y.core name gone left in
       let rs : List model.RecordSide = filter (λ (r : model.RecordSide). not (bytes_eq r.name name)) (map record_of y.records.items) in
@@ -385,9 +385,9 @@ module _ (cs : List ClientSide) (ss : List ServerSide) (ks : List Joined) (cl : 
           ),
         ),
       )
-  remove-does may y' ks' sl' (Ok u) (gone, left, core, inr (removes, is_y, is_k, is_l)) = (there, (gone, left, core, inr (removes, stay y' ks' sl' is_y is_k is_l)))
-  remove-does may y' ks' sl' (Err OutOfMemory) (is_y, is_k, is_l) = (may, stay y' ks' sl' is_y is_k is_l)
-  remove-does may y' ks' sl' (Err _) d = absurd d
+  remove-does y' ks' sl' (Ok u) (gone, left, core, inr (removes, is_y, is_k, is_l)) = (there, (gone, left, core, inr (removes, stay y' ks' sl' is_y is_k is_l)))
+  remove-does y' ks' sl' (Err OutOfMemory) (held, is_y, is_k, is_l) = ((there, held), stay y' ks' sl' is_y is_k is_l)
+  remove-does y' ks' sl' (Err _) d = absurd d
 
   -- circuits are found as before
   pub remove-indexed : (numbers : List (List ℕ)) (y' : ServerSide) (ks' : List Joined) (sl' : List (List Entry)) (r : Result (Unit {0}) Refusal) → Did y' ks' sl' r
@@ -401,7 +401,7 @@ module _ (cs : List ClientSide) (ss : List ServerSide) (ks : List Joined) (cl : 
       (indexed-map numbers (server_numbers ss) (map f js) (indexed-map numbers (server_numbers ss) js h f (removal-keeps i y.core name gone left)) (ending (ends_by i core)) (ending-keeps (ends_by i core)))
   remove-indexed numbers y' ks' sl' (Ok u) (gone, left, core, inr (removes, is_y, is_k, is_l)) h =
       indexed-same numbers numbers (server_numbers ss) (server_numbers (slice_set ss i y')) (map joined_of ks) (map joined_of ks') refl (numbers-set (λ (z : ServerSide). z.circuits.items) ss i y y' at (ap (λ (z : ServerSide). z.circuits.items) is_y)) is_k h
-  remove-indexed numbers y' ks' sl' (Err OutOfMemory) (is_y, is_k, is_l) h =
+  remove-indexed numbers y' ks' sl' (Err OutOfMemory) (held, is_y, is_k, is_l) h =
       indexed-same numbers numbers (server_numbers ss) (server_numbers (slice_set ss i y')) (map joined_of ks) (map joined_of ks') refl (numbers-set (λ (z : ServerSide). z.circuits.items) ss i y y' at (ap (λ (z : ServerSide). z.circuits.items) is_y)) is_k h
   remove-indexed numbers y' ks' sl' (Err _) d h = absurd d
 
