@@ -1,15 +1,11 @@
 //! Each event by its method: one `match` in `happen`. A moment is apart, because it may stop
 //! half-way, between two clients.
-ghost use Rattle.std.specs.Prelude.{◌≡◌, ℕ, None};
+ghost use Rattle.std.specs.Prelude.{◌≡◌, None};
 ghost use Rattle.ca_events.specs.Events.{event_of, moment_of};
-ghost use Rattle.ca_model.specs.Events as event;
-ghost use Rattle.ca_model.specs.World as model;
 ghost use Rattle.ca_world.specs.Stepping.{IsClientCall, Steps};
-ghost use Rattle.ca_world.specs.Ticking.{Ticks};
 ghost use Rattle.ca_world_data.specs.Does.{Does};
 
 use crate::stopped::Stopped;
-use crate::tick::AfterTick;
 use crate::world::World;
 use ca_events::Event;
 use ca_text::Refusal;
@@ -31,7 +27,7 @@ impl World {
         ensures { Steps self (event_of event.now) result }
     {
         match event.moment() {
-            Some(moment) => after_tick(self.tick(moment)),
+            Some(moment) => self.tick(moment),
             None => self.step_on(event),
         }
     }
@@ -126,17 +122,5 @@ impl World {
             Event::GiveUp { client, request } => self.give_up(client as usize, request as usize),
             _ => unreachable!(),
         }
-    }
-}
-
-// What became of a world after a moment.
-fn after_tick(tick: AfterTick) -> AfterEvent
-    ensures { (old : model.World) (moment : ℕ) → Ticks old moment tick
-        → Steps old (event.Tick moment) result }
-{
-    match tick {
-        AfterTick::Done(world) => AfterEvent::Done(world),
-        AfterTick::Back(world) => AfterEvent::Refused(world, Refusal::BadEvent),
-        AfterTick::Stopped(world) => AfterEvent::Stopped(world),
     }
 }
