@@ -47,13 +47,12 @@ use ca_world_data::history::{LogEntry, Step, Told};
 use ca_world_data::joined::Joined;
 use ca_world_data::numbering::check_counts;
 use ca_world_data::replies::{MOST_REPLIES, Spare, make_spare, replies_in};
-use ca_world_data::reporting::{report_ends, reserve_reports};
+use ca_world_data::reporting::{report_ends, report_ends_with, reserve_reports};
 use ca_world_data::server::{RecordSide, ServerSide};
 use ca_world_servers::ahead::{Ahead, look_at};
 use ca_world_servers::coming::Coming;
 use ca_world_servers::doing::{tell_effect, tell_write};
 use ca_world_servers::effects::{tell_on, wrote_by, wrote_of};
-use ca_world_servers::ends_with::report_ends_with;
 use ca_world_servers::handling::{note_handled, reserve_begin, reserve_handled};
 use std::alloc::{AllocError, Global};
 

@@ -16,6 +16,7 @@ pub mod Entering
 pub mod Gone
 pub mod Serving
 pub mod Reported
+pub mod EndsUnder
 pub mod Numbers
 pub mod Counting
 pub mod Handed

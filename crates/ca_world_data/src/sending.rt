@@ -2,7 +2,6 @@
 //! at the client under its handle.
 ghost use Rattle.std.specs.Prelude.{◌≡◌, OnOk, map};
 ghost use Rattle.ca_client_core.specs.ForHistories.{aim_of, sending_of};
-ghost use Rattle.ca_ids.specs.Table.{same_handle};
 ghost use Rattle.ca_model.specs.ClientEvents as world;
 ghost use Rattle.ca_world_data.specs.Found.{AreNumbered};
 ghost use Rattle.ca_world_data.specs.Seen.{intent_of, joined_of, names_of};
@@ -13,7 +12,7 @@ use crate::client::Names;
 use crate::found::circuit_of;
 use crate::history::{Ask, Intent};
 use crate::joined::Joined;
-use crate::naming::{channel_number, meant_by};
+use crate::naming::{channel_number, is_same, meant_by};
 use crate::way::{push_sent, reserve_sent};
 use ca_arena::Handle;
 use ca_client_core::for_histories::{Aim, Sending};
@@ -74,12 +73,6 @@ fn number_on(circuit: Handle, sendings: &[Sending]) -> usize
         .iter()
         .filter(|sending| is_same(sending.circuit, circuit))
         .count()
-}
-
-fn is_same(a: Handle, b: Handle) -> bool
-    ensures { result ≡ same_handle a b }
-{
-    a.index == b.index && a.generation == b.generation
 }
 
 /// Puts these messages after those of the client on its circuits, which it has by these numbers.
