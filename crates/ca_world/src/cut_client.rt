@@ -13,7 +13,7 @@ use ca_text::Refusal;
 use ca_world_data::client::ClientSide;
 use ca_world_data::closing::close_client;
 use ca_world_data::ends::ends_at;
-use ca_world_data::history::{Intent, Line};
+use ca_world_data::history::Line;
 use ca_world_data::joined::Joined;
 use ca_world_data::logs::reserve_lines;
 use ca_world_data::telling::tell_all;
@@ -65,13 +65,7 @@ fn cut_at(
     let few = side.names.requests.len() + side.names.channels.len();
     reserve_lines(logs, side.life, few)?;
     let closing = side.core.cut(joined.at_client);
-    tell_all(
-        logs,
-        side.life,
-        Intent::OfCircuit,
-        &side.names,
-        closing.notices,
-    );
+    tell_all(logs, side.life, &side.names, closing.notices);
     close_client(joined, closing.left);
     Ok(())
 }
