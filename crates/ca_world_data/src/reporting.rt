@@ -1,7 +1,8 @@
 //! Ends of circuits at a server that ended in a call of its core, which did not report them: they
 //! are reported at once.
-ghost use Rattle.std.specs.Prelude.{[], ◌≡◌, ◌++◌, ◌+◌, ◌<◌, ◌≤◌, ◌==◌, ◌&&◌, IfOk, MatchOption, OnOk};
-ghost use Rattle.std.specs.Prelude.{Some, filter, is_some, length, map, not, vec_capacity, vec_len};
+ghost use Rattle.std.specs.Prelude.{[], ◌≡◌, ◌++◌, ◌+◌, ◌<◌, ◌≤◌, ◌==◌, ◌&&◌, IfOk, OnOk, Some};
+ghost use Rattle.std.specs.Prelude.{MatchOption, filter, is_some, length, map, not, vec_capacity};
+ghost use Rattle.std.specs.Prelude.{vec_len};
 ghost use Rattle.ca_ids.specs.Table.{same_handle, under, with_freed};
 ghost use Rattle.ca_model.specs.ServerEvents.{ends_at};
 ghost use Rattle.ca_model.specs.ServerEvents as world;
