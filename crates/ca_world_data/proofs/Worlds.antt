@@ -56,14 +56,14 @@ world_of cs ss ks cl sl m = record {
   moment = m;
 }
 
--- the ends that were found among lists of these lengths
-pub ends-here : (cs : List ClientSide) (ss : List ServerSide) (ks ls : List Joined) (c s k : ℕ) (e : Ends) → c ≡ length cs → s ≡ length ss → ls ≡ ks → AreEnds c s ls k e → AreEnds (length cs) (length ss) ks k e
-ends-here cs ss ks ls c s k e is_c is_s is a =
-    subst (λ (z : ℕ × (ℕ × List Joined)). AreEnds z.0 z.1.0 z.1.1 k e) (λ t. (is_c t, (is_s t, is t))) a
+-- the ends that were found among lists that are these
+pub ends-here : (cs : List ClientSide) (ss : List ServerSide) (ks : List Joined) (xs : List ClientSide) (ys : List ServerSide) (ls : List Joined) (k : ℕ) (e : Ends) → xs ≡ cs → ys ≡ ss → ls ≡ ks → AreEnds (length xs) (length ys) ls k e → AreEnds (length cs) (length ss) ks k e
+ends-here cs ss ks xs ys ls k e is_c is_s is a =
+    subst (λ (z : List ClientSide × (List ServerSide × List Joined)). AreEnds (length z.0) (length z.1.0) z.1.1 k e) (λ t. (is_c t, (is_s t, is t))) a
 
-pub no-ends-here : (cs : List ClientSide) (ss : List ServerSide) (ks ls : List Joined) (c s k : ℕ) → c ≡ length cs → s ≡ length ss → ls ≡ ks → NoEnds c s ls k → NoEnds (length cs) (length ss) ks k
-no-ends-here cs ss ks ls c s k is_c is_s is a =
-    subst (λ (z : ℕ × (ℕ × List Joined)). NoEnds z.0 z.1.0 z.1.1 k) (λ t. (is_c t, (is_s t, is t))) a
+pub no-ends-here : (cs : List ClientSide) (ss : List ServerSide) (ks : List Joined) (xs : List ClientSide) (ys : List ServerSide) (ls : List Joined) (k : ℕ) → xs ≡ cs → ys ≡ ss → ls ≡ ks → NoEnds (length xs) (length ys) ls k → NoEnds (length cs) (length ss) ks k
+no-ends-here cs ss ks xs ys ls k is_c is_s is a =
+    subst (λ (z : List ClientSide × (List ServerSide × List Joined)). NoEnds (length z.0) (length z.1.0) z.1.1 k) (λ t. (is_c t, (is_s t, is t))) a
 
 -- where its client and its server are
 pub ends-client : (c s : ℕ) (ks : List Joined) (k : ℕ) (e : Ends) → AreEnds c s ks k e → e.client < c
