@@ -1,5 +1,5 @@
 -- What a step of a client's end makes of a world.
-use Rattle.std.proofs.Common.{◌≡◌, ◌⊎◌, ℕ, ◌+◌, ◌<◌, ◌≤◌, ◌==◌, true, false, List, [], ◌∷◌, ◌++◌, Option, Some, None, Result, Ok, Err, length, refl, sym, ap, subst, ◌∙◌, arith}
+use Rattle.std.proofs.Common.{◌≡◌, ℕ, ◌+◌, ◌<◌, true, false, List, Option, Some, None, Result, Ok, Err, length, refl, sym, ap, subst, ◌∙◌, arith}
 use Rattle.std.specs.Prelude.{OnErr, if◌then◌else◌, map, slice_set, Vec}
 use Rattle.std.specs.declared.alloc.Global.{Global}
 use Rattle.std.proofs.lemmas.List.{length-map}
@@ -13,7 +13,6 @@ use Rattle.ca_model.specs.Answers as notice
 use Rattle.ca_model.specs.Client.{Client, Connection, connection_at}
 use Rattle.ca_model.specs.ClientEnds.{ClientSteps}
 use Rattle.ca_model.specs.ClientEnds as client
-use Rattle.ca_model.specs.Hears.{left}
 use Rattle.ca_model.specs.History.{Entry, Line, OfCircuit, Step}
 use Rattle.ca_model.specs.ClientEvents.{client_closed, client_stepped, heard_in, lines_of, waiting_down}
 use Rattle.ca_model.specs.Events.{ClientStep}

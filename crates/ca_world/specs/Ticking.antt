@@ -1,5 +1,5 @@
 -- Working: what handing a moment to a world leaves of clients, logs and circuits.
-use Rattle.std.specs.Prelude.{ℕ, ◌≡◌, List, [], Ok, Err, Result, length}
+use Rattle.std.specs.Prelude.{ℕ, List, [], Ok, Err, Result, length}
 use Rattle.std.specs.declared.alloc.AllocError.{AllocError}
 use Rattle.ca_text.specs.declared.refusal.Refusal.TheVariants.{OutOfMemory}
 use Rattle.ca_text.specs.Place.{At}

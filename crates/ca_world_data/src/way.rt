@@ -3,7 +3,7 @@ ghost use Rattle.std.specs.Prelude.{◌≡◌, ◌+◌, ◌≤◌, MatchResult, 
 ghost use Rattle.ca_ids.specs.Wire.{wire_of};
 ghost use Rattle.ca_world_data.specs.Clears.{IsClearWay};
 ghost use Rattle.ca_world_data.specs.Found.{AreNumbered};
-ghost use Rattle.ca_world_data.specs.Logs.{HasRoom, lines_in};
+ghost use Rattle.ca_world_data.specs.Logs.{lines_in};
 ghost use Rattle.ca_world_data.specs.Seen.{client_of, intent_of, joined_of, sent_of};
 ghost use Rattle.ca_world_data.specs.Sends.{KeepsRoom, LeavesRoom};
 ghost use Rattle.ca_world_data.specs.Speaking.{GoesUp, HasRoomUp, IsReady, IsUnready, IsWay};
