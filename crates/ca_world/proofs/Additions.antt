@@ -25,7 +25,7 @@ use Rattle.ca_world_data.specs.declared.joined.Joined.{Joined}
 use Rattle.ca_world_data.specs.declared.server.ServerSide.{ServerSide}
 use Rattle.ca_world_data.specs.Does.{Does}
 use Rattle.ca_world_data.specs.Seen.{client_of, joined_of, server_of}
-use Rattle.ca_world_data.proofs.Worlds.{set-map, set-same, world_of}
+use Rattle.ca_world_data.proofs.Worlds.{server-stays, set-map, world_of}
 use Rattle.ca_world.specs.Adding.{AddsAt, AreInOrder, AreLike, StandsBehind}
 use Rattle.ca_world.specs.Whole.{IsReached}
 
@@ -211,16 +211,6 @@ module _ (cs : List ClientSide) (ss : List ServerSide) (ks : List Joined) (cl : 
   abbrev there : IsServer (world_of cs ss ks cl sl m) i
   there = record { y = server_of y; at = At-map server_of ss i y at }
 
-  stay : (y' : ServerSide) (sl' : List (List Entry)) → server_of y' ≡ server_of y → sl' ≡ sl → world_of cs (slice_set ss i y') ks cl sl' m ≡ world_of cs ss ks cl sl m
-  stay y' sl' is_y is_l = λ t. record {
-    clients = map client_of cs;
-    servers = (set-map server_of ss i y' ∙ ap (slice_set (map server_of ss) i) is_y ∙ set-same (map server_of ss) i (server_of y) (At-map server_of ss i y at)) t;
-    circuits = map joined_of ks;
-    client_logs = cl;
-    server_logs = is_l t;
-    moment = m;
-  }
-
   pub add-does : (y' : ServerSide) (sl' : List (List Entry)) (r : Result (Unit {0}) Refusal) → AddsAt s (server_of y) sl r (server_of y') sl' → Does (world_of cs ss ks cl sl m) (Add i s) r (world_of cs (slice_set ss i y') ks cl sl' m)
   add-does y' sl' (Ok u) (core, behind, inl (adds, is_y, is_l)) = (
     there,
@@ -240,8 +230,8 @@ module _ (cs : List ClientSide) (ss : List ServerSide) (ks : List Joined) (cl : 
       ),
     ),
   )
-  add-does y' sl' (Ok u) (core, behind, inr (e, other, adds, is_y, is_l)) = (there, (core, behind, inr (e, other, adds, stay y' sl' is_y is_l)))
-  add-does y' sl' (Err OutOfMemory) (may, is_y, is_l) = ((there, may), stay y' sl' is_y is_l)
+  add-does y' sl' (Ok u) (core, behind, inr (e, other, adds, is_y, is_l)) = (there, (core, behind, inr (e, other, adds, server-stays cs ss ks ks cl sl sl' m i y y' at is_y refl is_l)))
+  add-does y' sl' (Err OutOfMemory) (may, is_y, is_l) = ((there, may), server-stays cs ss ks ks cl sl sl' m i y y' at is_y refl is_l)
   add-does y' sl' (Err _) d = absurd d
 
 -- no server

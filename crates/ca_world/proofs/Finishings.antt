@@ -65,8 +65,8 @@ use Rattle.ca_world_data.specs.Opening.{entries_in}
 use Rattle.ca_world_data.specs.Reporting.{AreServed, Reports, gone_at, waits}
 use Rattle.ca_world_data.specs.Seen.{client_of, entry_of, joined_of, place_of, record_of, server_of, told_of}
 use Rattle.ca_world_data.specs.ServerCuts.{HasRoomFor}
-use Rattle.ca_world_data.proofs.Indexes.{KeepsEnds, ends-stay, indexed-circuit, indexed-map, indexed-same, numbers-set}
-use Rattle.ca_world_data.proofs.Worlds.{found as looked, set-map, set-same, world_of}
+use Rattle.ca_world_data.proofs.Indexes.{KeepsEnds, ends-stay, indexed-circuit, indexed-map, indexed-server}
+use Rattle.ca_world_data.proofs.Worlds.{found as looked, server-stays, set-map, world_of}
 
 -- ---- the value of a put that waits
 
@@ -697,11 +697,6 @@ module _ (cs : List ClientSide) (ss : List ServerSide) (ks : List Joined) (cl : 
   abbrev there : IsServer (world_of cs ss ks cl sl m) i
   there = record { y = server_of y; at = At-map server_of ss i y at }
 
-  stay : (y' : ServerSide) (ks' : List Joined) (sl' : List (List history.Entry)) → y' ≡ y → map joined_of ks' ≡ map joined_of ks → sl' ≡ sl → world_of cs (slice_set ss i y') ks' cl sl' m ≡ world_of cs ss ks cl sl m
-  stay y' ks' sl' is_y is_k is_l =
-      (λ t. record { clients = map client_of cs; servers = map server_of (slice_set ss i (is_y t)); circuits = is_k t; client_logs = cl; server_logs = is_l t; moment = m })
-      ∙ (λ t. world_of cs (set-same ss i y at t) ks cl sl m)
-
   -- the world once this server was the one that called, on these circuits
   abbrev over : model.ServerSide → List model.Joined → List (List history.Entry) → model.World
   over z js logs =
@@ -763,19 +758,15 @@ module _ (cs : List ClientSide) (ss : List ServerSide) (ks : List Joined) (cl : 
       leaves = ends-leave y' ks' sl' d;
     }),
   )
-  finish-does y' ks' sl' (Ok u) (inr (e, refuses, is_y, is_k, is_l)) = (there, inr (e, refuses, stay y' ks' sl' is_y is_k is_l))
-  finish-does y' ks' sl' (Err OutOfMemory) ((b, busy), is_y, is_k, is_l) = ((there, (busy.c, busy.named, put-busy b busy.c.busy busy.busy)), stay y' ks' sl' is_y is_k is_l)
+  finish-does y' ks' sl' (Ok u) (inr (e, refuses, is_y, is_k, is_l)) = (there, inr (e, refuses, server-stays cs ss ks ks' cl sl sl' m i y y' at (ap server_of is_y) is_k is_l))
+  finish-does y' ks' sl' (Err OutOfMemory) ((b, busy), is_y, is_k, is_l) = ((there, (busy.c, busy.named, put-busy b busy.c.busy busy.busy)), server-stays cs ss ks ks' cl sl sl' m i y y' at (ap server_of is_y) is_k is_l)
   finish-does y' ks' sl' (Err _) d = absurd d
-
-  -- circuits are found as before
-  indexed-still : (numbers : List (List ℕ)) (y' : ServerSide) (ks' : List Joined) → y' ≡ y → map joined_of ks' ≡ map joined_of ks → AreIndexed numbers (server_numbers ss) (map joined_of ks) → AreIndexed numbers (server_numbers (slice_set ss i y')) (map joined_of ks')
-  indexed-still numbers y' ks' is_y is_k h =
-      indexed-same numbers numbers (server_numbers ss) (server_numbers (slice_set ss i y')) (map joined_of ks) (map joined_of ks') refl (numbers-set (λ (z : ServerSide). z.circuits.items) ss i y y' at (ap (λ (z : ServerSide). z.circuits.items) is_y)) is_k h
 
   next-keeps : (ws : List WaitingPut) (j : model.Joined) → KeepsEnds j (next_numbers i y.core name ws j)
   next-keeps [] j = ends-stay j j refl
   next-keeps (w ∷ ws) j = posted-keeps i y.core name write_mask j
 
+  -- circuits are found as before
   pub finish-indexed : (numbers : List (List ℕ)) (y' : ServerSide) (ks' : List Joined) (sl' : List (List history.Entry)) (r : Result (Unit {0}) Refusal) → FinishesAt i name y (map joined_of ks) sl r y' (map joined_of ks') sl'
       → AreIndexed numbers (server_numbers ss) (map joined_of ks) → AreIndexed numbers (server_numbers (slice_set ss i y')) (map joined_of ks')
   finish-indexed numbers y' ks' sl' (Ok u) (inl d) h =
@@ -783,12 +774,12 @@ module _ (cs : List ClientSide) (ss : List ServerSide) (ks : List Joined) (cl : 
       let nexts : List model.Joined = map (next_numbers i y.core name d.cr.waiting) js in
       let told : AreIndexed numbers (server_numbers ss) nexts = indexed-map numbers (server_numbers ss) js h (next_numbers i y.core name d.cr.waiting) (next-keeps d.cr.waiting) in
       let said : AreIndexed numbers (server_numbers ss) (replied_in d.p d.sent nexts) = indexed-replied d.p d.sent numbers (server_numbers ss) nexts told in
-      indexed-same numbers numbers (server_numbers ss) (server_numbers (slice_set ss i y')) _ (map joined_of ks') refl
-      (numbers-set (λ (z : ServerSide). z.circuits.items) ss i y y' at (d.reports.numbers ∙ d.numbers))
-      d.reports.circuits
+      indexed-server numbers ss i y y' _ (map joined_of ks') at (d.reports.numbers ∙ d.numbers) d.reports.circuits
       (indexed-map numbers (server_numbers ss) (replied_in d.p d.sent nexts) said (ending (ends_by i d.mid.core)) (ending-keeps (ends_by i d.mid.core)))
-  finish-indexed numbers y' ks' sl' (Ok u) (inr (e, refuses, is_y, is_k, is_l)) h = indexed-still numbers y' ks' is_y is_k h
-  finish-indexed numbers y' ks' sl' (Err OutOfMemory) (busy, is_y, is_k, is_l) h = indexed-still numbers y' ks' is_y is_k h
+  finish-indexed numbers y' ks' sl' (Ok u) (inr (e, refuses, is_y, is_k, is_l)) h =
+      indexed-server numbers ss i y y' (map joined_of ks) (map joined_of ks') at (ap (λ (z : ServerSide). z.circuits.items) is_y) is_k h
+  finish-indexed numbers y' ks' sl' (Err OutOfMemory) (busy, is_y, is_k, is_l) h =
+      indexed-server numbers ss i y y' (map joined_of ks) (map joined_of ks') at (ap (λ (z : ServerSide). z.circuits.items) is_y) is_k h
   finish-indexed numbers y' ks' sl' (Err _) d h = absurd d
 
 -- no server

@@ -41,8 +41,8 @@ use Rattle.ca_world_data.specs.Numbering.{AllAlike, AreAlike, IsAlike, keys_with
 use Rattle.ca_world_data.specs.Posting.{PostsAt, TellsPost}
 use Rattle.ca_world_data.specs.Reporting.{AreServed, gone_at}
 use Rattle.ca_world_data.specs.Seen.{client_of, joined_of, record_of, server_of}
-use Rattle.ca_world_data.proofs.Indexes.{KeepsEnds, ends-stay, indexed-map, indexed-same, numbers-set}
-use Rattle.ca_world_data.proofs.Worlds.{set-map, set-same, world_of}
+use Rattle.ca_world_data.proofs.Indexes.{KeepsEnds, ends-stay, indexed-map, indexed-server}
+use Rattle.ca_world_data.proofs.Worlds.{server-stays, set-map, world_of}
 use Rattle.ca_world.specs.Whole.{IsReached}
 
 -- ---- ends beside their circuits
@@ -85,13 +85,7 @@ each-under f t h = go (under t h) (under (with_each f t) h) refl refl
         none-some : (c : ServerCircuit) → (let x : Option ServerCircuit = None in x ≡ Some c) → ⊥
         none-some c e = cc
 
-module _ (name : List ℕ) (mask : ℕ) (v : Stored) (gone : Handle → Bool) (y core : Server) (posts : Posts y name v mask gone (Ok tt) core) where
-  abbrev change : Handle → ServerCircuit → ServerCircuit
-  change = reached name mask v gone
-
-  post-under : (h : Handle) → under core.circuits h ≡ option_map (change h) (under y.circuits h)
-  post-under h = ap (λ (z : Server). under z.circuits h) posts.2 ∙ each-under change y.circuits h
-
+module _ (name : List ℕ) (mask : ℕ) (v : Stored) (gone : Handle → Bool) where
   within-posted : (key : SubKey) (qs : List (Queue Stored)) → keys_within (map (queue_posted key v) qs) ≡ keys_within qs
   within-posted key [] = refl
   within-posted key (q ∷ qs) = (λ i. one (is_among key q.subscriptions) i ∷ within-posted key qs i)
@@ -104,18 +98,23 @@ module _ (name : List ℕ) (mask : ℕ) (v : Stored) (gone : Handle → Bool) (y
   within-all [] qs = refl
   within-all (s ∷ ss) qs = within-all ss (map (queue_posted (key_of s) v) qs) ∙ within-posted (key_of s) qs
 
-  alike-one : (h : Handle) (o : Option ServerCircuit) (j : model.Joined) → IsAlike o j → IsAlike (option_map (change h) o) j
-  alike-one h None j a = tt
-  alike-one h (Some (Ended cause left)) j a = tt
-  alike-one h (Some (Open e)) j a = go (gone h)
+  -- a post that reaches an end
+  pub reached-alike : (h : Handle) (o : Option ServerCircuit) (j : model.Joined) → IsAlike o j → IsAlike (option_map (reached name mask v gone h) o) j
+  reached-alike h None j a = tt
+  reached-alike h (Some (Ended cause left)) j a = tt
+  reached-alike h (Some (Open e)) j a = go (gone h)
     where
       go : (b : Bool) → IsAlike (Some (if b then Ended why.OutOfMemory e.link.output else Open (with_post name mask v e))) j
       go true = tt
       go false = record { keys = a.keys; apart = a.apart; queues = a.queues ∙ sym (within-all (filter (concerns name mask) e.subscriptions) e.queues) }
 
-  pub alike-posted : (i : ℕ) (ks : List model.Joined) → AllAlike i y ks → AllAlike i core ks
-  alike-posted i ks all k j at mine on =
-      subst (λ (o : Option ServerCircuit). IsAlike o j) (sym (post-under j.at_server)) (alike-one j.at_server (under y.circuits j.at_server) j (all k j at mine on))
+  post-under : (y core : Server) → Posts y name v mask gone (Ok tt) core → (h : Handle) → under core.circuits h ≡ option_map (reached name mask v gone h) (under y.circuits h)
+  post-under y core posts h = ap (λ (z : Server). under z.circuits h) posts.2 ∙ each-under (reached name mask v gone) y.circuits h
+
+  pub alike-posted : (y core : Server) → Posts y name v mask gone (Ok tt) core → (i : ℕ) (ks : List model.Joined) → AllAlike i y ks → AllAlike i core ks
+  alike-posted y core posts i ks all k j at mine on =
+      let h : Handle = j.at_server in
+      subst (λ (o : Option ServerCircuit). IsAlike o j) (sym (post-under y core posts h)) (reached-alike h (under y.circuits h) j (all k j at mine on))
 
 -- ---- numbers
 
@@ -124,7 +123,7 @@ ends-fold : (i : ℕ) (core : Server) (keys : List SubKey) (j : model.Joined) �
 ends-fold i core [] j = refl
 ends-fold i core (key ∷ keys) j = ends-fold i core keys (with_number j key)
 
-closed-fold : (left : List ℕ) (keys : List SubKey) (j : model.Joined) → server_closed left (fold with_number j keys) ≡ server_closed left j
+pub closed-fold : (left : List ℕ) (keys : List SubKey) (j : model.Joined) → server_closed left (fold with_number j keys) ≡ server_closed left j
 closed-fold left [] j = refl
 closed-fold left (key ∷ keys) j = closed-fold left keys (with_number j key)
 
@@ -247,11 +246,6 @@ module _ (cs : List ClientSide) (ss : List ServerSide) (ks : List Joined) (cl : 
   abbrev there : IsServer (world_of cs ss ks cl sl m) i
   there = record { y = server_of y; at = At-map server_of ss i y at }
 
-  stay : (y' : ServerSide) (ks' : List Joined) (sl' : List (List Entry)) → y' ≡ y → map joined_of ks' ≡ map joined_of ks → sl' ≡ sl → world_of cs (slice_set ss i y') ks' cl sl' m ≡ world_of cs ss ks cl sl m
-  stay y' ks' sl' is_y is_k is_l =
-      (λ t. record { clients = map client_of cs; servers = map server_of (slice_set ss i (is_y t)); circuits = is_k t; client_logs = cl; server_logs = is_l t; moment = m })
-      ∙ (λ t. world_of cs (set-same ss i y at t) ks cl sl m)
-
   pub post-does : (y' : ServerSide) (ks' : List Joined) (sl' : List (List Entry)) (r : Result (Unit {0}) Refusal) → PostsAt i name v mask y (map joined_of ks) sl r y' (map joined_of ks') sl'
       → Does (world_of cs ss ks cl sl m) (Post i name e mask) r (world_of cs (slice_set ss i y') ks' cl sl' m)
   post-does y' ks' sl' (Ok u) (gone, core, inl (posts, did)) =
@@ -278,8 +272,8 @@ module _ (cs : List ClientSide) (ss : List ServerSide) (ks : List Joined) (cl : 
         ),
       )
   post-does y' ks' sl' (Ok u) (gone, core, inr (f, other, posts, is_y, is_k, is_l)) =
-      (there, (gone, core, inr (f, other, posts, stay y' ks' sl' is_y is_k is_l)))
-  post-does y' ks' sl' (Err OutOfMemory) (fits, is_y, is_k, is_l) = ((there, fits), stay y' ks' sl' is_y is_k is_l)
+      (there, (gone, core, inr (f, other, posts, server-stays cs ss ks ks' cl sl sl' m i y y' at (ap server_of is_y) is_k is_l)))
+  post-does y' ks' sl' (Err OutOfMemory) (fits, is_y, is_k, is_l) = ((there, fits), server-stays cs ss ks ks' cl sl sl' m i y y' at (ap server_of is_y) is_k is_l)
   post-does y' ks' sl' (Err _) d = absurd d
 
   -- circuits are found as before
@@ -287,17 +281,12 @@ module _ (cs : List ClientSide) (ss : List ServerSide) (ks : List Joined) (cl : 
       → AreIndexed numbers (server_numbers ss) (map joined_of ks) → AreIndexed numbers (server_numbers (slice_set ss i y')) (map joined_of ks')
   post-indexed numbers y' ks' sl' (Ok u) (gone, core, inl (posts, did)) h =
       let js : List model.Joined = map joined_of ks in
-      indexed-same numbers numbers (server_numbers ss) (server_numbers (slice_set ss i y')) _ (map joined_of ks') refl
-      (numbers-set (λ (z : ServerSide). z.circuits.items) ss i y y' at did.numbers)
-      did.circuits
+      indexed-server numbers ss i y y' _ (map joined_of ks') at did.numbers did.circuits
       (indexed-map numbers (server_numbers ss) (map (numbers_posted i core name mask) js) (indexed-map numbers (server_numbers ss) js h (numbers_posted i core name mask) (posted-keeps i core name mask)) (ending (ends_by i core)) (ending-keeps (ends_by i core)))
-  post-indexed numbers y' ks' sl' (Ok u) (gone, core, inr (f, other, posts, is_y, is_k, is_l)) h = indexed-still numbers y' ks' is_y is_k h
-    where
-      indexed-still : (numbers : List (List ℕ)) (y' : ServerSide) (ks' : List Joined) → y' ≡ y → map joined_of ks' ≡ map joined_of ks → AreIndexed numbers (server_numbers ss) (map joined_of ks) → AreIndexed numbers (server_numbers (slice_set ss i y')) (map joined_of ks')
-      indexed-still numbers y' ks' is_y is_k h =
-          indexed-same numbers numbers (server_numbers ss) (server_numbers (slice_set ss i y')) (map joined_of ks) (map joined_of ks') refl (numbers-set (λ (z : ServerSide). z.circuits.items) ss i y y' at (ap (λ (z : ServerSide). z.circuits.items) is_y)) is_k h
+  post-indexed numbers y' ks' sl' (Ok u) (gone, core, inr (f, other, posts, is_y, is_k, is_l)) h =
+      indexed-server numbers ss i y y' (map joined_of ks) (map joined_of ks') at (ap (λ (z : ServerSide). z.circuits.items) is_y) is_k h
   post-indexed numbers y' ks' sl' (Err OutOfMemory) (fits, is_y, is_k, is_l) h =
-      indexed-same numbers numbers (server_numbers ss) (server_numbers (slice_set ss i y')) (map joined_of ks) (map joined_of ks') refl (numbers-set (λ (z : ServerSide). z.circuits.items) ss i y y' at (ap (λ (z : ServerSide). z.circuits.items) is_y)) is_k h
+      indexed-server numbers ss i y y' (map joined_of ks) (map joined_of ks') at (ap (λ (z : ServerSide). z.circuits.items) is_y) is_k h
   post-indexed numbers y' ks' sl' (Err _) d h = absurd d
 
 -- no server

@@ -48,8 +48,8 @@ use Rattle.ca_world_data.specs.Indexed.{AreIndexed, server_numbers}
 use Rattle.ca_world_data.specs.Reporting.{AreServed, waits}
 use Rattle.ca_world_data.specs.Seen.{client_of, joined_of, place_of, record_of, server_of}
 use Rattle.ca_world_data.specs.ServerCuts.{HasRoomFor}
-use Rattle.ca_world_data.proofs.Indexes.{KeepsEnds, ends-stay, indexed-map, indexed-same, numbers-set}
-use Rattle.ca_world_data.proofs.Worlds.{set-map, set-same, world_of}
+use Rattle.ca_world_data.proofs.Indexes.{KeepsEnds, ends-stay, indexed-map, indexed-server}
+use Rattle.ca_world_data.proofs.Worlds.{server-stays, set-map, world_of}
 use Rattle.ca_world_servers.specs.declared.losing.Leading.{Leading}
 use Rattle.ca_world_servers.specs.Losing.{AllMayLose, AllReady, AreLost, Disconnects, is_lost, lead_at, lost_by, lost_told, removed_all, without_lost}
 use Rattle.ca_world_servers.specs.Removing.{AllSeated, Becomes, RemovesAt, TellsRemoval}
@@ -349,11 +349,6 @@ module _ (cs : List ClientSide) (ss : List ServerSide) (ks : List Joined) (cl : 
   abbrev there : IsServer (world_of cs ss ks cl sl m) i
   there = record { y = server_of y; at = At-map server_of ss i y at }
 
-  stay : (y' : ServerSide) (ks' : List Joined) (sl' : List (List Entry)) → y' ≡ y → map joined_of ks' ≡ map joined_of ks → sl' ≡ sl → world_of cs (slice_set ss i y') ks' cl sl' m ≡ world_of cs ss ks cl sl m
-  stay y' ks' sl' is_y is_k is_l =
-      (λ t. record { clients = map client_of cs; servers = map server_of (slice_set ss i (is_y t)); circuits = is_k t; client_logs = cl; server_logs = is_l t; moment = m })
-      ∙ (λ t. world_of cs (set-same ss i y at t) ks cl sl m)
-
   abbrev Did : ServerSide → List Joined → List (List Entry) → Result (Unit {0}) Refusal → Type 0
   Did y' ks' sl' r = RemovesAt i name y (map joined_of ks) sl r y' (map joined_of ks') sl'
 
@@ -385,8 +380,8 @@ module _ (cs : List ClientSide) (ss : List ServerSide) (ks : List Joined) (cl : 
           ),
         ),
       )
-  remove-does y' ks' sl' (Ok u) (gone, left, core, inr (removes, is_y, is_k, is_l)) = (there, (gone, left, core, inr (removes, stay y' ks' sl' is_y is_k is_l)))
-  remove-does y' ks' sl' (Err OutOfMemory) (held, is_y, is_k, is_l) = ((there, held), stay y' ks' sl' is_y is_k is_l)
+  remove-does y' ks' sl' (Ok u) (gone, left, core, inr (removes, is_y, is_k, is_l)) = (there, (gone, left, core, inr (removes, server-stays cs ss ks ks' cl sl sl' m i y y' at (ap server_of is_y) is_k is_l)))
+  remove-does y' ks' sl' (Err OutOfMemory) (held, is_y, is_k, is_l) = ((there, held), server-stays cs ss ks ks' cl sl sl' m i y y' at (ap server_of is_y) is_k is_l)
   remove-does y' ks' sl' (Err _) d = absurd d
 
   -- circuits are found as before
@@ -395,14 +390,12 @@ module _ (cs : List ClientSide) (ss : List ServerSide) (ks : List Joined) (cl : 
   remove-indexed numbers y' ks' sl' (Ok u) (gone, left, core, inl (removes, did)) h =
       let js : List model.Joined = map joined_of ks in
       let f : model.Joined → model.Joined = removed_at i y.core name gone left in
-      indexed-same numbers numbers (server_numbers ss) (server_numbers (slice_set ss i y')) _ (map joined_of ks') refl
-      (numbers-set (λ (z : ServerSide). z.circuits.items) ss i y y' at did.reports.numbers)
-      did.reports.circuits
+      indexed-server numbers ss i y y' _ (map joined_of ks') at did.reports.numbers did.reports.circuits
       (indexed-map numbers (server_numbers ss) (map f js) (indexed-map numbers (server_numbers ss) js h f (removal-keeps i y.core name gone left)) (ending (ends_by i core)) (ending-keeps (ends_by i core)))
   remove-indexed numbers y' ks' sl' (Ok u) (gone, left, core, inr (removes, is_y, is_k, is_l)) h =
-      indexed-same numbers numbers (server_numbers ss) (server_numbers (slice_set ss i y')) (map joined_of ks) (map joined_of ks') refl (numbers-set (λ (z : ServerSide). z.circuits.items) ss i y y' at (ap (λ (z : ServerSide). z.circuits.items) is_y)) is_k h
+      indexed-server numbers ss i y y' (map joined_of ks) (map joined_of ks') at (ap (λ (z : ServerSide). z.circuits.items) is_y) is_k h
   remove-indexed numbers y' ks' sl' (Err OutOfMemory) (held, is_y, is_k, is_l) h =
-      indexed-same numbers numbers (server_numbers ss) (server_numbers (slice_set ss i y')) (map joined_of ks) (map joined_of ks') refl (numbers-set (λ (z : ServerSide). z.circuits.items) ss i y y' at (ap (λ (z : ServerSide). z.circuits.items) is_y)) is_k h
+      indexed-server numbers ss i y y' (map joined_of ks) (map joined_of ks') at (ap (λ (z : ServerSide). z.circuits.items) is_y) is_k h
   remove-indexed numbers y' ks' sl' (Err _) d h = absurd d
 
 -- no server

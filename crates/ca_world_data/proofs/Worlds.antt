@@ -1,5 +1,5 @@
 -- A world seen through its lists.
-use Rattle.std.proofs.Common.{◌≡◌, ℕ, zero, suc, ◌<◌, Bool, true, false, List, [], ◌∷◌, length, get_or, refl, sym, ap, subst, arith}
+use Rattle.std.proofs.Common.{◌≡◌, ℕ, zero, suc, ◌<◌, Bool, true, false, List, [], ◌∷◌, length, get_or, refl, sym, ap, subst, ◌∙◌, arith}
 use Rattle.std.specs.Prelude.{if◌then◌else◌, map, slice_set}
 use Rattle.std.proofs.lemmas.List.{length-map}
 use Rattle.std.proofs.lemmas.Option.{slice_get-get_or}
@@ -53,6 +53,18 @@ world_of cs ss ks cl sl m = record {
   circuits = map joined_of ks;
   client_logs = cl;
   server_logs = sl;
+  moment = m;
+}
+
+-- one server was set to one that looks the same
+pub server-stays : (cs : List ClientSide) (ss : List ServerSide) (ks ks' : List Joined) (cl : List (List Line)) (sl sl' : List (List Entry)) (m i : ℕ) (y y' : ServerSide) → At ss i y → server_of y' ≡ server_of y → map joined_of ks' ≡ map joined_of ks → sl' ≡ sl
+    → world_of cs (slice_set ss i y') ks' cl sl' m ≡ world_of cs ss ks cl sl m
+server-stays cs ss ks ks' cl sl sl' m i y y' at is_y is_k is_l = λ t. record {
+  clients = map client_of cs;
+  servers = (set-map server_of ss i y' ∙ ap (slice_set (map server_of ss) i) is_y ∙ set-same (map server_of ss) i (server_of y) (At-map server_of ss i y at)) t;
+  circuits = is_k t;
+  client_logs = cl;
+  server_logs = is_l t;
   moment = m;
 }
 

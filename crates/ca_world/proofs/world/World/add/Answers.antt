@@ -11,11 +11,11 @@ use Rattle.ca_world_data.specs.declared.client.ClientSide.{ClientSide}
 use Rattle.ca_world_data.specs.declared.joined.Joined.{Joined}
 use Rattle.ca_world_data.specs.declared.server.ServerSide.{ServerSide}
 use Rattle.ca_world_data.specs.Does.{Does}
-use Rattle.ca_world_data.specs.Indexed.{client_numbers, server_numbers}
+use Rattle.ca_world_data.specs.Indexed.{client_numbers}
 use Rattle.ca_world_data.specs.Logs.{lines_in}
 use Rattle.ca_world_data.specs.Opening.{entries_in}
 use Rattle.ca_world_data.specs.Seen.{joined_of, server_of}
-use Rattle.ca_world_data.proofs.Indexes.{indexed-same, numbers-set}
+use Rattle.ca_world_data.proofs.Indexes.{indexed-server}
 use Rattle.ca_world_data.proofs.Worlds.{found, world_of}
 use Rattle.ca_world.specs.Adding.{AddsAt}
 use Rattle.ca_world.specs.Whole.{seen}
@@ -82,5 +82,5 @@ invariant_of-self c =
     let did : AddsAt s (server_of y) sl c.add_at.result (server_of y') sl' =
     subst (λ (name : List ℕ). AddsAt (record s { name = name }) (server_of y) sl c.add_at.result (server_of y') sl') c.deref.ensures.value c.add_at.ensures.adds in
     let d = add-does cs ss ks cl sl w.moment i y at s y' sl' c.add_at.result did in
-    let indexed = indexed-same (client_numbers cs) (client_numbers cs) (server_numbers ss) (server_numbers (slice_set ss i y')) (map joined_of ks) (map joined_of ks) refl (numbers-set (λ (z : ServerSide). z.circuits.items) ss i y y' at c.add_at.ensures.kept) refl c.self.invariant.indexed in
+    let indexed = indexed-server (client_numbers cs) ss i y y' (map joined_of ks) (map joined_of ks) at c.add_at.ensures.kept refl c.self.invariant.indexed in
     all-stand w _ (Add i s) (c.know.ensures, refl) c.add_at.result d c.self.invariant indexed

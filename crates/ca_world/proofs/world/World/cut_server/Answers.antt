@@ -16,7 +16,7 @@ use Rattle.ca_world_data.specs.Indexed.{client_numbers, server_numbers}
 use Rattle.ca_world_data.specs.Opening.{entries_in}
 use Rattle.ca_world_data.specs.Seen.{joined_of, line_of}
 use Rattle.ca_world.proofs.Cuttings.{cut-by, cut-keeps, cut-none, cut-off, cut-serves}
-use Rattle.ca_world_data.proofs.Indexes.{indexed-circuit, indexed-same, numbers-set}
+use Rattle.ca_world_data.proofs.Indexes.{indexed-circuit, indexed-server}
 use Rattle.ca_world.proofs.Lasting.{all-stand}
 use Rattle.ca_world_data.proofs.Worlds.{ends-here, ends-server, found, is-open, no-ends-here, not-open, set-map, world_of}
 use Rattle.ca_world.proofs.world.World.cut_server.Goals as goal
@@ -113,9 +113,5 @@ invariant_of-self c =
     let d = cut-by cs ss ks cl sl w.moment k e a j j' y y' sl' c.cut_at.result at server on c.self.invariant.reached c.cut_at.ensures in
     let kept = cut-keeps k y y' j j' sl sl' c.cut_at.result c.cut_at.ensures in
     let moved = indexed-circuit (client_numbers cs) (server_numbers ss) (map joined_of ks) c.self.invariant.indexed k (joined_of j) (joined_of j') (At-map joined_of ks k j at) kept.1 in
-    let indexed = indexed-same (client_numbers cs) (client_numbers cs) (server_numbers ss) (server_numbers (slice_set ss e.server y')) (slice_set (map joined_of ks) k (joined_of j')) (map joined_of (slice_set ks k j'))
-    refl
-    (numbers-set (λ (z : ServerSide). z.circuits.items) ss e.server y y' server kept.0)
-    (set-map joined_of ks k j')
-    moved in
+    let indexed = indexed-server (client_numbers cs) ss e.server y y' (slice_set (map joined_of ks) k (joined_of j')) (map joined_of (slice_set ks k j')) server kept.0 (set-map joined_of ks k j') moved in
     all-stand w _ (CutServer k) tt c.cut_at.result d c.self.invariant indexed

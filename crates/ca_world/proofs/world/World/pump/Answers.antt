@@ -17,7 +17,7 @@ use Rattle.ca_world_data.specs.Opening.{entries_in}
 use Rattle.ca_world_data.specs.Seen.{joined_of, line_of}
 use Rattle.ca_world.proofs.Cuttings.{cut-serves}
 use Rattle.ca_world.proofs.Pumpings.{pump-alike, pump-by, pump-fits, pump-keeps, pump-none, pump-off}
-use Rattle.ca_world_data.proofs.Indexes.{indexed-circuit, indexed-same, numbers-set}
+use Rattle.ca_world_data.proofs.Indexes.{indexed-circuit, indexed-server}
 use Rattle.ca_world.proofs.Lasting.{all-stand}
 use Rattle.ca_world_data.proofs.Worlds.{ends-here, ends-server, found, is-open, no-ends-here, not-open, set-map, world_of}
 use Rattle.ca_world.proofs.world.World.pump.Goals as goal
@@ -148,9 +148,5 @@ invariant_of-self c =
     let d = pump-by cs ss ks cl sl w.moment k e a j j' y y' sl' c.pump_at.result at server on c.self.invariant.reached c.pump_at.ensures in
     let kept = pump-keeps k y y' j j' sl sl' c.pump_at.result c.pump_at.ensures in
     let moved = indexed-circuit (client_numbers cs) (server_numbers ss) (map joined_of ks) c.self.invariant.indexed k (joined_of j) (joined_of j') (At-map joined_of ks k j at) kept.1 in
-    let indexed = indexed-same (client_numbers cs) (client_numbers cs) (server_numbers ss) (server_numbers (slice_set ss e.server y')) (slice_set (map joined_of ks) k (joined_of j')) (map joined_of (slice_set ks k j'))
-    refl
-    (numbers-set (λ (z : ServerSide). z.circuits.items) ss e.server y y' server kept.0)
-    (set-map joined_of ks k j')
-    moved in
+    let indexed = indexed-server (client_numbers cs) ss e.server y y' (slice_set (map joined_of ks) k (joined_of j')) (map joined_of (slice_set ks k j')) server kept.0 (set-map joined_of ks k j') moved in
     all-stand w _ (Pump k) tt c.pump_at.result d c.self.invariant indexed
