@@ -37,6 +37,7 @@ use Rattle.ca_world_data.proofs.Calls.{after-quiet}
 use Rattle.ca_world_data.proofs.Tellings.{step-tells}
 use Rattle.ca_world_data.proofs.Indexes.{KeepsEnds, indexed-circuit, indexed-map}
 use Rattle.ca_world_data.proofs.Worlds.{none-joined, one-at, same-circuit, world_of}
+use Rattle.ca_world_data.proofs.Momentary.{sent-keeps}
 use Rattle.ca_world.specs.declared.world.World.TheInside.{Inside}
 use Rattle.ca_world.specs.Resting.{ComesDown, HearsOrRests}
 use Rattle.ca_world.specs.Whole.{Stands, seen}
@@ -79,9 +80,6 @@ may-one (Err e) k x ks j at may = may j at
 heard-ends : (s : Step) (j : Joined) → KeepsEnds j (heard_in s j)
 heard-ends s j = record { client = refl; server = refl; at_client = refl; at_server = refl; closes = λ on. on; stops = λ on. on }
 
-sent-ends : (i : ℕ) (n : model.Names) (sent : List Sending) (j : Joined) → KeepsEnds j (sent_up i n sent j)
-sent-ends i n sent j = record { client = refl; server = refl; at_client = refl; at_server = refl; closes = λ on. on; stops = λ on. on }
-
 closed-ends : (bytes : List ℕ) (j : Joined) → KeepsEnds j (client_closed bytes j)
 closed-ends bytes j = record { client = refl; server = refl; at_client = refl; at_server = refl; closes = λ on. absurd cc; stops = λ on. on }
 
@@ -92,7 +90,7 @@ steps-keep i k j x x' logs logs' ks ks' (Ok u) at (did, sent, steps, side, leave
     go notice.NeedBytes l = subst (λ (z : List Joined). AreIndexed cs ss z) (sym l.1) h
     go (notice.Notices told) l =
         subst (λ (z : List Joined). AreIndexed cs ss z) (sym l.1)
-        (indexed-map cs ss (slice_set ks k (heard_in (step_at j _ _) j)) (indexed-circuit cs ss ks h k j (heard_in (step_at j _ _) j) at (heard-ends (step_at j _ _) j)) (sent_up i x.names sent) (sent-ends i x.names sent))
+        (indexed-map cs ss (slice_set ks k (heard_in (step_at j _ _) j)) (indexed-circuit cs ss ks h k j (heard_in (step_at j _ _) j) at (heard-ends (step_at j _ _) j)) (sent_up i x.names sent) (sent-keeps i x.names sent))
     go (notice.Closed c) l = subst (λ (z : List Joined). AreIndexed cs ss z) (sym l.1) (indexed-circuit cs ss ks h k j (client_closed c.left j) at (closed-ends c.left j))
 steps-keep i k j x x' logs logs' ks ks' (Err OutOfMemory) at d cs ss h = subst (λ (z : List Joined). AreIndexed cs ss z) (sym d.2) h
 steps-keep i k j x x' logs logs' ks ks' (Err _) at d cs ss h = absurd d

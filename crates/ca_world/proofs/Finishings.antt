@@ -4,7 +4,7 @@ use Rattle.std.specs.Prelude.{IsErrAnd, OnOk, Vec, if◌then◌else◌, is_some,
 use Rattle.std.specs.declared.alloc.Global.{Global}
 use Rattle.std.specs.List.{fold}
 use Rattle.std.specs.Str.{bytes_eq}
-use Rattle.std.proofs.lemmas.List.{append-nil, append_assoc, length-append, length-map}
+use Rattle.std.proofs.lemmas.List.{append-nil, length-append, length-map}
 use Rattle.std.proofs.lemmas.Slice.Eq.{bytes_eq-Decides}
 use Rattle.ca_arena.specs.declared.handle.Handle.{Handle}
 use Rattle.ca_dbr.specs.Elements.{Elements}
@@ -51,6 +51,7 @@ use Rattle.ca_world.specs.Whole.{IsReached}
 use Rattle.ca_world.proofs.Additions.{others-apart}
 use Rattle.ca_world.proofs.Postings.{each-under, ending-keeps, posted-keeps, served-posted}
 use Rattle.ca_world.proofs.Counted.{run-unstamped}
+use Rattle.ca_world.proofs.Downward.{at-set}
 use Rattle.ca_world_data.specs.declared.client.ClientSide.{ClientSide}
 use Rattle.ca_world_data.specs.declared.history.LogEntry.{LogEntry}
 use Rattle.ca_world_data.specs.declared.joined.Joined.{Joined}
@@ -67,6 +68,7 @@ use Rattle.ca_world_data.specs.Seen.{client_of, entry_of, joined_of, place_of, r
 use Rattle.ca_world_data.specs.ServerCuts.{HasRoomFor}
 use Rattle.ca_world_data.proofs.Indexes.{KeepsEnds, ends-stay, indexed-circuit, indexed-map, indexed-server}
 use Rattle.ca_world_data.proofs.Worlds.{found as looked, server-stays, set-map, world_of}
+use Rattle.ca_world_data.proofs.Silences.{grown-twice}
 
 -- ---- the value of a put that waits
 
@@ -101,12 +103,6 @@ next-log logs life ps p log any has first is =
     (at, (e, value, subst (λ (l : List history.Entry). In l e) same in_log, subst (λ (z : PutPlace). TellsWait e z value) one tells))
 
 -- ---- logs
-
--- more entries after others
-pub grown-twice : {A : Type 0} (life : ℕ) (some more : List A) (logs : List (List A)) → grown life more (grown life some logs) ≡ grown life (some ++ more) logs
-grown-twice life some more [] = refl
-grown-twice zero some more (l ∷ ls) = ap (λ (z : List _). z ∷ ls) (append_assoc l some more)
-grown-twice (suc n) some more (l ∷ ls) = ap (λ (z : List (List _)). l ∷ z) (grown-twice n some more ls)
 
 -- ---- the bytes of a circuit
 
@@ -415,16 +411,12 @@ set-aside waits i core name p sent ks header_only after last j c told at bare_is
     let is : after ≡ slice_set (map f ks) k (with_down [] (f j)) =
     after_is ∙ numbered-map waits i core name header_only ∙ ap (map f) bare_is ∙ set-map f ks k (with_down [] j) ∙ ap (slice_set (map f ks) k) (down-numbers waits [] i core name j) in
     let mapped : At (map f ks) k (f j) = At-map f ks k j at in
-    let c_is : c ≡ with_down [] (f j) = At-one after k c (with_down [] (f j)) there (subst (λ (z : List model.Joined). At z k (with_down [] (f j))) (sym is) (set-there (map f ks) k (f j) (with_down [] (f j)) mapped)) in
+    let c_is : c ≡ with_down [] (f j) = At-one after k c (with_down [] (f j)) there (subst (λ (z : List model.Joined). At z k (with_down [] (f j))) (sym is) (at-set (map f ks) k (f j) (with_down [] (f j)) mapped)) in
     last_is ∙ (λ t. slice_set (is t) k (with_down told (c_is t))) ∙ set-twice (map f ks) k (with_down [] (f j)) (with_down told (f j))
     ∙ ap (λ (d : List history.Told). slice_set (map f ks) k (with_down d (f j))) (told_is ∙ ap (λ (d : List history.Told). d ++ reply) (sym (down-kept waits i core name j)))
     ∙ sym (replied-there p sent (map f ks) (f j) mapped)
     ∙ ap (replied_in p sent) (sym (numbered-map waits i core name ks))
   where
-    set-there : {A : Type 0} (xs : List A) (n : ℕ) (x y : A) → At xs n x → At (slice_set xs n y) n y
-    set-there [] n x y at = absurd cc
-    set-there (z ∷ xs) zero x y at = refl
-    set-there (z ∷ xs) (suc n) x y at = set-there xs n x y at
 
 -- ---- circuits of the world
 

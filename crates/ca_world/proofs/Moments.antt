@@ -6,7 +6,7 @@ use Rattle.std.specs.declared.alloc.AllocError.{AllocError}
 use Rattle.std.proofs.lemmas.List.{length-map}
 use Rattle.ca_text.specs.Place.{At}
 use Rattle.ca_text.proofs.Places.{At-map, At-set}
-use Rattle.ca_model.specs.Answers.{Left, Sending}
+use Rattle.ca_model.specs.Answers.{Left}
 use Rattle.ca_model.specs.History.{Entry, Line}
 use Rattle.ca_model.specs.ClientEvents.{TicksOne, after_tick, client_closed, left_silent}
 use Rattle.ca_model.specs.Events.{Tick}
@@ -23,10 +23,12 @@ use Rattle.ca_world_data.specs.Ticks.{TellsFew, TicksClient}
 use Rattle.ca_world_data.proofs.Indexes.{KeepsEnds, ends-stay, indexed-map, indexed-same, numbered-of, numbers-set}
 use Rattle.ca_world_data.proofs.Silences.{numbered-map}
 use Rattle.ca_world_data.proofs.Worlds.{set-map}
+use Rattle.ca_world_data.proofs.Momentary.{sent-keeps}
 use Rattle.ca_world.specs.Halted.{HasStopped}
 use Rattle.ca_world.specs.Ticking.{AllNumbered, AllTellFew, TicksSome, TicksTo, world_with}
 use Rattle.ca_world.specs.Whole.{CameAbout, IsReached}
 use Rattle.ca_world.proofs.Partings.{moment-tells}
+use Rattle.ca_queue.proofs.Circuits.{length-set}
 
 -- ---- lists
 
@@ -55,9 +57,6 @@ tick-keeps i closings j = go (j.client == i && j.lists.client_open) (left_silent
     go false o = ends-stay j j refl
     go true None = ends-stay j j refl
     go true (Some left) = record { client = refl; server = refl; at_client = refl; at_server = refl; closes = λ on. absurd cc; stops = λ on. on }
-
-sent-keeps : (i : ℕ) (n : model.Names) (sent : List Sending) (j : Joined) → KeepsEnds j (sent_up i n sent j)
-sent-keeps i n sent j = record { client = refl; server = refl; at_client = refl; at_server = refl; closes = λ on. on; stops = λ on. on }
 
 -- ---- one client
 
@@ -112,18 +111,13 @@ far-none moment cs cl ks numbered = record {
   indexed = λ ns ss h. h;
 }
 
-set-many : {A : Type 0} (xs : List A) (i : ℕ) (y : A) → length (slice_set xs i y) ≡ length xs
-set-many [] i y = refl
-set-many (x ∷ xs) zero y = refl
-set-many (x ∷ xs) (suc i) y = (let e = set-many xs i y in omega (arith, e))
-
 pub far-next : (moment n : ℕ) (cs now : List ClientSide) (cl cl1 cl2 : List (List Line)) (ks ks1 ks2 : List Joined) (x x' : ClientSide) (u : Unit {0}) → IsAsFar moment n cs now cl cl1 ks ks1 → At now n x
     → TicksClient n moment (client_of x) cl1 ks1 (Ok u) (client_of x') cl2 ks2 → x'.circuits.items ≡ x.circuits.items → IsAsFar moment (n + 1) cs (slice_set now n x') cl cl2 ks ks2
 far-next moment n cs now cl cl1 cl2 ks ks1 ks2 x x' u far at does kept = record {
   ticks =
       subst (λ (l : List model.ClientSide). TicksTo moment (n + 1) (map client_of cs) cl ks l cl2 ks2) (sym (set-map client_of now n x'))
       (ticks-next moment n (map client_of cs) (map client_of now) cl cl1 cl2 ks ks1 ks2 (client_of x) (client_of x') u far.ticks (At-map client_of now n x at) does);
-  many = set-many now n x' ∙ far.many;
+  many = length-set now n x' ∙ far.many;
   rest = λ i y le there. elim (At-set now n x' i y there) [
     | inl own ↦ (let here : i ≡ n = own.0 in absurd (omega (arith, le, here)))
     | inr old ↦ far.rest i y (omega (arith, le)) old.0

@@ -10,9 +10,6 @@ use Rattle.ca_arena.specs.declared.handle.Handle.{Handle}
 use Rattle.ca_ids.specs.Table.{under}
 use Rattle.ca_ids.specs.Wire.{wire_of}
 use Rattle.ca_queue.specs.declared.entry.SubKey.{SubKey}
-use Rattle.ca_queue.specs.Images.{queue_images}
-use Rattle.ca_queue.specs.Keys.{is_among}
-use Rattle.ca_queue.specs.Queue.{Queue}
 use Rattle.ca_queue.proofs.Circuits.{set-twice}
 use Rattle.ca_text.specs.declared.refusal.Refusal.{Refusal}
 use Rattle.ca_text.specs.declared.refusal.Refusal.TheVariants.{OutOfMemory, UnknownRecord}
@@ -26,16 +23,14 @@ use Rattle.ca_wire.specs.Messages.{disconnect}
 use Rattle.ca_wire.proofs.Headers.{length-short, spelling-short}
 use Rattle.ca_wire.proofs.Messages.{length-spelling}
 use Rattle.ca_model.specs.Ends as why
-use Rattle.ca_model.specs.History.{Cause, Entry, Line, Told}
+use Rattle.ca_model.specs.History.{Entry, Line, Told}
 use Rattle.ca_model.specs.Server.{Ended, Open, OpenChannel, Server, ServerCircuit}
 use Rattle.ca_model.specs.ServerCalls.{Removes, channels_of, circuit_without, disconnects, end_without}
 use Rattle.ca_model.specs.Events.{Remove}
-use Rattle.ca_model.specs.Runs.{CanBe, IsServer, Runs}
+use Rattle.ca_model.specs.Runs.{CanBe, IsServer}
 use Rattle.ca_model.specs.ServerEvents.{disconnected_at, ending, ends_at, ends_by, removal_entries, removal_told, removed_at, reported, withdrawals, without_puts, without_standing}
 use Rattle.ca_model.specs.World.{grown}
 use Rattle.ca_model.specs.World as model
-use Rattle.ca_laws_runs.proofs.Acted.{run-follows}
-use Rattle.ca_laws_runs.proofs.StepWhole.{run-serves}
 use Rattle.ca_server_circuit.specs.Concerned.{ids_of}
 use Rattle.ca_server_core.specs.ForHistories.{bytes_under, channels_under}
 use Rattle.ca_world_data.specs.declared.client.ClientSide.{ClientSide}
@@ -54,26 +49,11 @@ use Rattle.ca_world_servers.specs.declared.losing.Leading.{Leading}
 use Rattle.ca_world_servers.specs.Losing.{AllMayLose, AllReady, AreLost, Disconnects, is_lost, lead_at, lost_by, lost_told, removed_all, without_lost}
 use Rattle.ca_world_servers.specs.Removing.{AllSeated, Becomes, RemovesAt, TellsRemoval}
 use Rattle.ca_world_servers.proofs.Losings.{removed-told}
-use Rattle.ca_world.specs.Whole.{IsReached}
 use Rattle.ca_world.proofs.Postings.{each-under, ending-keeps}
+use Rattle.ca_laws_parts.proofs.WritesLists.{take-whole}
+use Rattle.ca_laws_parts.proofs.UpdatesNumbers.{length-take-within}
 
 -- ---- what stands
-
--- in every run the queues of an open circuit have the subscriptions that stand, and nothing
--- waits there for others
-pub run-seated : (w : model.World) (i : ℕ) → IsReached w → AllSeated i w.circuits
-run-seated w i (s, es, ok, folds) k j there mine on =
-    let runs : Runs s es None w = (w, folds, refl) in
-    let serves = run-serves s es None w ok runs in
-    let seat = serves.stands.sound.seated.each k j there on in
-    let log = serves.stands.sound.within k j there in
-    let holds = (run-follows s es None w ok runs k j seat.y seat.e log.0 there seat.at on seat.has (subst (λ (l : ℕ). At w.server_logs l log.0) seat.joins log.1)).holds in
-    record {
-      stand = λ n q key at has.
-          let d = At-mapped (queue_images _) holds.both n q (subst (λ (qs : List (Queue (ℕ × Cause))). At qs n q) holds.numbers_are at) in
-          holds.seats n d.0 key d.1 (ap (λ (z : Queue (ℕ × Cause)). is_among key z.subscriptions) (sym d.2) ∙ has);
-      known = λ n q x at waits. (serves.numbers k j there on q (n, at) x waits).0;
-    }
 
 -- ---- one circuit
 
@@ -119,15 +99,6 @@ take-long : {A : Type 0} (n : ℕ) (xs : List A) → take (length (take n xs)) x
 take-long zero xs = refl
 take-long (suc n) [] = refl
 take-long (suc n) (x ∷ xs) = ap (λ (t : List _). x ∷ t) (take-long n xs)
-
-take-whole : {A : Type 0} (xs : List A) → take (length xs) xs ≡ xs
-take-whole [] = refl
-take-whole (x ∷ xs) = ap (λ (t : List _). x ∷ t) (take-whole xs)
-
-take-fewer : {A : Type 0} (n : ℕ) (xs : List A) → length (take n xs) ≤ length xs
-take-fewer zero xs = omega arith
-take-fewer (suc n) [] = omega arith
-take-fewer (suc n) (x ∷ xs) = (let rest = take-fewer n xs in omega (arith, rest))
 
 module _ (name : List ℕ) (gone : Handle → Bool) (left : Handle → ℕ) (y core : Server) (removes : Removes y name gone left (Ok tt) core) where
   removed-under : (h : Handle) → under core.circuits h ≡ option_map (circuit_without name gone left h) (under y.circuits h)
@@ -176,7 +147,7 @@ module _ (name : List ℕ) (gone : Handle → Bool) (left : Handle → ℕ) (y c
       cs = channels_of name e
 
       go : (b : Bool) → length (if b then take (left h) cs else cs) ≤ length (map ids_of cs)
-      go true = (let few = take-fewer (left h) cs in let same = length-map cs ids_of in omega (arith, few, same))
+      go true = (let few = length-take-within (left h) cs in let same = length-map cs ids_of in omega (arith, few, same))
       go false = (let same = length-map cs ids_of in omega (arith, same))
 
   module _ (i : ℕ) (ks : List Joined) (ls : List Leading) (ready : AllReady i y name ks ls) where

@@ -28,9 +28,10 @@ use Rattle.ca_world_data.specs.Indexed.{AreIndexed, client_numbers, server_numbe
 use Rattle.ca_world.specs.Whole.{Stands, seen}
 use Rattle.ca_world_data.specs.Seen.{client_of, joined_of}
 use Rattle.ca_world_data.specs.Speaking.{CallsOn, sent_up}
-use Rattle.ca_world_data.proofs.Indexes.{KeepsEnds, indexed-map, indexed-same, numbered-of, numbers-set}
+use Rattle.ca_world_data.proofs.Indexes.{indexed-map, indexed-same, numbered-of, numbers-set}
 use Rattle.ca_world.proofs.Lasting.{all-stand}
 use Rattle.ca_world_data.proofs.Worlds.{set-map, set-same}
+use Rattle.ca_world_data.proofs.Momentary.{sent-keeps}
 
 -- the world with another client, other logs and other circuits
 abbrev pub spoken_in : (i : ℕ) → model.ClientSide → List (List Line) → List model.Joined → model.World → model.World
@@ -65,10 +66,6 @@ call-noted i Named Answers spoken names lines x x' logs logs' ks ks' h e (Ok u) 
     (h, named, inl (record { e = e; other = n.0; refused = is; side = side; logged = n.1; stay = stay }))
 call-noted i Named Answers spoken names lines x x' logs logs' ks ks' h e (Err r) named is side stay n =
     subst (λ (z : Refusal). CallsOn i Named Answers spoken names lines x logs ks (Err z) x' logs' ks') (sym n.1) (h, named, side, n.2, stay)
-
--- circuits are found by their handles still
-sent-keeps : (i : ℕ) (n : model.Names) (sent : List Sending) (j : model.Joined) → KeepsEnds j (sent_up i n sent j)
-sent-keeps i n sent j = record { client = refl; server = refl; at_client = refl; at_server = refl; closes = λ on. on; stops = λ on. on }
 
 pub calls-keep : {K A : Type 0} (i : ℕ) (Named : K → Type 0) (Answers : K → Result A Refusal → List Sending → Client → Type 0) (spoken names : K → A → model.Names) (lines : K → A → List Line) (x x' : model.ClientSide) (logs logs' : List (List Line)) (ks ks' : List model.Joined) (r : Result (Unit {0}) Refusal)
     → CallsOn i Named Answers spoken names lines x logs ks r x' logs' ks' → (cs ss : List (List ℕ)) → AreIndexed cs ss ks → AreIndexed cs ss ks'

@@ -1,5 +1,5 @@
 -- A circuit is accepted, step by step.
-use Rattle.std.proofs.Common.{◌≡◌, ℕ, zero, suc, ◌≤◌, inl, inr, List, [], ◌∷◌, ◌++◌, Option, Some, None, Result, Ok, Err, length, refl, sym, ap, subst, ◌∙◌, arith}
+use Rattle.std.proofs.Common.{◌≡◌, ℕ, ◌≤◌, inl, inr, List, [], ◌∷◌, ◌++◌, Option, Some, None, Result, Ok, Err, length, refl, sym, ap, subst, ◌∙◌, arith}
 use Rattle.std.specs.Prelude.{map, slice_set, Vec}
 use Rattle.std.specs.declared.alloc.Global.{Global}
 use Rattle.std.proofs.lemmas.List.{append-nil}
@@ -24,15 +24,12 @@ use Rattle.ca_world_data.specs.declared.history.Line.{Line}
 use Rattle.ca_world_data.specs.declared.joined.Joined.{Joined}
 use Rattle.ca_world_data.specs.declared.server.ServerSide.{ServerSide}
 use Rattle.ca_world_data.specs.Accepting.{AcceptsOn, ConnectsSide, Extends, GainsNumber, MayRefuse, RefusedAs, StaysAs, begun_circuit}
-use Rattle.ca_world_data.specs.Logs.{HasRoom, lines_in}
+use Rattle.ca_world_data.specs.Logs.{lines_in}
 use Rattle.ca_world_data.specs.Seen.{client_of, joined_of, server_of}
 use Rattle.ca_world_data.specs.Speaking.{stamped}
+use Rattle.ca_world_data.proofs.Silences.{grown-nil}
 
 -- ---- the client connects
-
--- room for fewer lines
-pub room-less : (n m life : ℕ) (logs : List (Vec Line Global)) → m ≤ n → HasRoom n life logs → HasRoom m life logs
-room-less n m life logs le room log at = (let r = room log at in omega (arith, r, le))
 
 -- an end that ends at once tells no more than its farewell
 pub told-few : (x new : Client) (c : Handle) (k : Closing) (sent : List Sending) → ClientConnects x c (Some k) sent new → length k.notices ≤ length (farewell c x)
@@ -58,11 +55,6 @@ closes-sent x new c k sent connects = go (unconnected x c) connects
     go None does = does.1.0
     go (Some d) does = does.1
 
-grown-none : {A : Type 0} (life : ℕ) (logs : List (List A)) → grown life [] logs ≡ logs
-grown-none life [] = refl
-grown-none zero (l ∷ logs) = ap (λ (t : List _). t ∷ logs) (append-nil l)
-grown-none (suc life) (l ∷ logs) = ap (λ (t : List (List _)). l ∷ t) (grown-none life logs)
-
 -- the end goes on
 pub connects-open : (x x' : model.ClientSide) (logs : List (List history.Line)) (j j' : model.Joined) (up : List Sent) (sent : List Sending) → ClientConnects x.core j.at_client None sent x'.core → x' ≡ record x { core = x'.core }
     → up ≡ map (stamped x.names) (connecting_sent x.core j.at_client) → j.lists.up ≡ [] → j' ≡ record j { lists = record j.lists { up = up } } → ConnectsSide x logs j x' logs j'
@@ -71,7 +63,7 @@ connects-open x x' logs j j' up sent connects side first none is = record {
   sent = sent;
   connects = connects;
   side = side;
-  logged = sym (grown-none x.life logs);
+  logged = sym (grown-nil x.life logs);
   circuit =
       is
       ∙ ap (λ (u : List Sent). record j { lists = record j.lists { up = u } }) (first ∙ ap (map (stamped x.names)) (sym (connects-sent x.core x'.core j.at_client sent connects)))

@@ -13,11 +13,11 @@ use Rattle.ca_model.specs.Server.{Server}
 use Rattle.ca_model.specs.ServerEvents.{ending, ends_at, ends_by, left_by, reported, server_closed, withdrawals, without_puts}
 use Rattle.ca_model.specs.World.{Joined, grown}
 use Rattle.ca_model.specs.World as model
+use Rattle.ca_model.proofs.Handles.{same-is, same-itself}
 use Rattle.ca_world_data.specs.declared.server.RecordSide.{RecordSide}
 use Rattle.ca_world_data.specs.declared.server.ServerSide.{ServerSide}
 use Rattle.ca_world_data.specs.Reporting.{AreServed, IsServed, IsUnserved}
 use Rattle.ca_world_data.specs.Seen.{record_of, server_of}
-use Rattle.ca_world_data.proofs.Sendings.{same-is, same-itself}
 use Rattle.ca_world_data.proofs.Serving.{one-at-server}
 use Rattle.ca_world_data.specs.EndsWith.{ReportsWith, closed_under, ends_under, gone_with}
 

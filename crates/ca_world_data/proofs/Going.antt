@@ -13,6 +13,7 @@ use Rattle.ca_model.specs.History as history
 use Rattle.ca_model.specs.ClientEvents.{sent_on}
 use Rattle.ca_model.specs.World as model
 use Rattle.ca_model.specs.World.{Joined}
+use Rattle.ca_model.proofs.Handles.{same-itself}
 use Rattle.ca_client_core.specs.declared.for_histories.Sending.{Sending}
 use Rattle.ca_client_core.specs.ForHistories.{sending_of}
 use Rattle.ca_world_data.specs.declared.joined.Joined.{Joined as Opened}
@@ -21,7 +22,7 @@ use Rattle.ca_world_data.specs.Seen.{joined_of}
 use Rattle.ca_world_data.specs.Sends.{HasRoomForAll, IsRepeated, KeepsRoom, LeavesRoom, count_on}
 use Rattle.ca_world_data.specs.Speaking.{GoesBy, GoesUp, HasRoomUp, sent_up, stamped}
 use Rattle.ca_world_data.proofs.Indexes.{one-at-client}
-use Rattle.ca_world_data.proofs.Sendings.{same-itself, sent-by}
+use Rattle.ca_world_data.proofs.Sendings.{sent-by}
 
 -- ---- one, and then the rest
 

@@ -1,16 +1,12 @@
 -- At most two replies, read off their bytes.
-use Rattle.std.proofs.Common.{◌≡◌, ℕ, ◌+◌, ◌-◌, ◌<◌, ◌≤◌, List, [], ◌∷◌, ◌++◌, length, drop, take, refl, sym, ap, ◌∙◌, arith}
-use Rattle.std.proofs.lemmas.List.{append-nil, drop_at, length-append, length-drop, take_all}
+use Rattle.std.proofs.Common.{◌≡◌, ℕ, ◌+◌, ◌<◌, ◌≤◌, List, [], ◌∷◌, ◌++◌, length, drop, refl, sym, ap, ◌∙◌, arith}
+use Rattle.std.proofs.lemmas.List.{append-nil, drop_at, length-append}
 use Rattle.ca_wire.specs.Fields.{Fields}
 use Rattle.ca_wire.specs.Front.{FrontFits}
 use Rattle.ca_wire.specs.Message.{IsMessage, spelled, spelling}
 use Rattle.ca_wire.proofs.Messages.{spelling-long}
 use Rattle.ca_world_data.specs.Replies.{AreFew, AreWithin}
 use Rattle.ca_world_data.specs.Updates.{AreGood}
-
--- the slice from a place on
-pub rest-is : (bytes : List ℕ) (n : ℕ) → take (length bytes - n) (drop n bytes) ≡ drop n bytes
-rest-is bytes n = (let len = length-drop n bytes in take_all (length bytes - n) (drop n bytes) (omega (arith, len)))
 
 -- what is within a size is within a larger one
 pub within-more : (n k : ℕ) (ms : List Fields) → n ≤ k → AreWithin n ms → AreWithin k ms

@@ -13,7 +13,8 @@ use Rattle.ca_world_data.specs.declared.way.ChannelRoute.{ChannelRoute}
 use Rattle.ca_world_data.specs.Logs.{lines_in}
 use Rattle.ca_world_data.specs.Seen.{client_of, joined_of, named_of}
 use Rattle.ca_world_data.specs.Speaking.{GoesUp}
-use Rattle.ca_world.proofs.Clearings.{clears-done, clears-moved, clears-noted, room-fewer}
+use Rattle.ca_world_data.proofs.Silences.{room-fewer}
+use Rattle.ca_world.proofs.Clearings.{clears-done, clears-moved, clears-noted}
 use Rattle.ca_world.proofs.clear.clear_on.Goals as goal
 
 pub tell_call-requires : goal.tell_call-requires

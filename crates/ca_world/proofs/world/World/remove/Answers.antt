@@ -18,7 +18,8 @@ use Rattle.ca_world_data.proofs.Worlds.{found, world_of}
 use Rattle.ca_world_servers.specs.Removing.{RemovesAt}
 use Rattle.ca_world.specs.Whole.{seen}
 use Rattle.ca_world.proofs.Lasting.{all-stand}
-use Rattle.ca_world.proofs.Removings.{remove-does, remove-indexed, run-seated}
+use Rattle.ca_world.proofs.Removings.{remove-does, remove-indexed}
+use Rattle.ca_world.proofs.Seating.{run-seated}
 use Rattle.ca_world.proofs.world.World.remove.Goals as goal
 
 pub remove_at-requires-clause-served : goal.remove_at-requires-clause-served
