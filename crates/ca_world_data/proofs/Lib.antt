@@ -33,3 +33,4 @@ pub mod RepliesWithin
 pub mod Steppings
 pub mod Tellings
 pub mod Each
+pub mod Ranges
