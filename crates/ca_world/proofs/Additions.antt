@@ -7,12 +7,12 @@ use Rattle.ca_records.specs.Record.{RecordState}
 use Rattle.ca_text.specs.declared.refusal.Refusal.{Refusal}
 use Rattle.ca_text.specs.declared.refusal.Refusal.TheVariants.{OutOfMemory}
 use Rattle.ca_text.specs.Place.{At}
-use Rattle.ca_text.proofs.Places.{At-map, At-mapped, At-within, some_is}
+use Rattle.ca_text.proofs.Places.{At-map, At-mapped, some_is}
 use Rattle.ca_model.specs.History.{Entry, Line}
 use Rattle.ca_model.specs.Server.{Server}
 use Rattle.ca_model.specs.ServerCalls.{AddsRecord}
 use Rattle.ca_model.specs.Events.{Add}
-use Rattle.ca_model.specs.Runs.{CanBe, IsServer}
+use Rattle.ca_model.specs.Runs.{IsServer}
 use Rattle.ca_model.specs.World as model
 use Rattle.ca_laws_parts.specs.Agrees.{Agrees, AreOthers, Lack}
 use Rattle.ca_laws_parts.specs.Lives.{IsPutOf}
@@ -233,10 +233,3 @@ module _ (cs : List ClientSide) (ss : List ServerSide) (ks : List Joined) (cl : 
   add-does y' sl' (Ok u) (core, behind, inr (e, other, adds, is_y, is_l)) = (there, (core, behind, inr (e, other, adds, server-stays cs ss ks ks cl sl sl' m i y y' at is_y refl is_l)))
   add-does y' sl' (Err OutOfMemory) (may, is_y, is_l) = ((there, may), server-stays cs ss ks ks cl sl sl' m i y y' at is_y refl is_l)
   add-does y' sl' (Err _) d = absurd d
-
--- no server
-pub add-none : (cs : List ClientSide) (ss : List ServerSide) (ks : List Joined) (cl : List (List Line)) (sl : List (List Entry)) (m i : ℕ) (s : RecordState) → length ss ≤ i → CanBe (world_of cs ss ks cl sl m) (Add i s) → ⊥
-add-none cs ss ks cl sl m i s over can =
-    let d = At-mapped server_of ss i can.y can.at in
-    let within = At-within ss i d.0 d.1 in
-    absurd (omega (arith, within, over))

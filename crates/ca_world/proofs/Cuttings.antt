@@ -1,7 +1,6 @@
 -- A server's end of a circuit is cut, from what its parts became.
-use Rattle.std.proofs.Common.{◌≡◌, ℕ, inl, inr, true, false, not, List, Option, Some, Result, Ok, Err, length, refl, sym, ap, subst, ◌∙◌}
+use Rattle.std.proofs.Common.{◌≡◌, ℕ, inl, true, false, not, List, Result, Ok, Err, length, refl, sym, ap, subst, ◌∙◌}
 use Rattle.std.specs.Prelude.{if◌then◌else◌, map, slice_set}
-use Rattle.ca_arena.specs.declared.handle.Handle.{Handle}
 use Rattle.ca_ids.specs.Table.{under}
 use Rattle.ca_text.specs.declared.refusal.Refusal.{Refusal}
 use Rattle.ca_text.specs.declared.refusal.Refusal.TheVariants.{OutOfMemory}
@@ -9,16 +8,14 @@ use Rattle.ca_text.specs.Place.{At}
 use Rattle.ca_text.proofs.Places.{At-map, At-one}
 use Rattle.ca_model.specs.Ends as why
 use Rattle.ca_model.specs.History.{Entry, Line}
-use Rattle.ca_model.specs.Server.{Ended, Server, ServerCircuit, ServerEnd}
-use Rattle.ca_model.specs.ServerSteps.{Cuts, HasEnd, Steps, StepsAt, closed, ended, output_of}
-use Rattle.ca_model.specs.ServerSteps as steps
+use Rattle.ca_model.specs.Server.{Server, ServerEnd}
+use Rattle.ca_model.specs.ServerSteps.{HasEnd, ended, output_of}
 use Rattle.ca_model.specs.Events.{CutServer}
 use Rattle.ca_model.specs.Runs.{CanBe, HasServerEnd}
 use Rattle.ca_model.specs.ServerEvents.{ends_at, ends_by, reported, withdrawals, without_puts}
 use Rattle.ca_model.specs.World.{Setting, grown, opening}
 use Rattle.ca_model.specs.World as model
 use Rattle.ca_laws_parts.proofs.BytesRuns.{events-stand, opening-stands}
-use Rattle.ca_laws_parts.proofs.ServerEnds.{ended-own}
 use Rattle.ca_laws_parts.specs.Runs as bytes
 use Rattle.ca_laws_parts.specs.Seats.{HasSeat, Seated}
 use Rattle.ca_world_data.specs.declared.client.ClientSide.{ClientSide}
@@ -30,7 +27,7 @@ use Rattle.ca_world_data.specs.Ends.{AreEnds, NoEnds, ends_of}
 use Rattle.ca_world.specs.Whole.{IsReached}
 use Rattle.ca_world.specs.Reported.{AllReported, HasReported}
 use Rattle.ca_world_data.specs.Seen.{client_of, joined_of, record_of, server_of}
-use Rattle.ca_world_data.specs.ServerCuts.{CutsServer, IsServing, cut_core, left_in}
+use Rattle.ca_world_data.specs.ServerCuts.{CutsServer, IsServing}
 use Rattle.ca_world_data.specs.Withdrawing.{all_withdrawn}
 use Rattle.ca_world.proofs.Endings.{ends-number, ends-this, over-reports}
 use Rattle.ca_world_data.proofs.Indexes.{KeepsEnds, ends-stay}
@@ -39,17 +36,6 @@ use Rattle.ca_world_data.proofs.Withdrawals.{told-all}
 use Rattle.ca_world_data.proofs.Worlds.{joins, none-joined, one-at, same-circuit, set-map, set-same, world_of}
 
 -- ---- a core
-
--- the end is cut, and a step reports what it left
-pub cut-left : (y mid new : Server) (h : Handle) (e : ServerEnd) (did : steps.Stepped) → HasEnd y h e → Cuts y h mid → Steps mid h did new → (left_in did ≡ output_of (under y.circuits h)) × (new ≡ cut_core h y)
-cut-left y mid new h e did has (inr none) does = absurd (none.0 e has)
-cut-left y mid new h e did has (inl (f, there, is)) does =
-    let out : output_of (under y.circuits h) ≡ f.link.output = ap output_of there in
-    let mid_is : mid ≡ ended h why.Cut (output_of (under y.circuits h)) y = is ∙ (λ t. ended h why.Cut (sym out t) y) in
-    let over : under mid.circuits h ≡ Some (Ended why.Cut (output_of (under y.circuits h))) =
-    subst (λ (z : Server). under z.circuits h ≡ Some (Ended why.Cut (output_of (under y.circuits h)))) (sym mid_is) (ended-own h why.Cut (output_of (under y.circuits h)) y f there) in
-    let did_so : StepsAt mid h (Some (Ended why.Cut (output_of (under y.circuits h)))) did new = subst (λ (o : Option ServerCircuit). StepsAt mid h o did new) over does in
-    (ap left_in did_so.0, did_so.1 ∙ ap (closed h) mid_is)
 
 -- ---- what holds in every run
 

@@ -29,7 +29,7 @@ use Rattle.ca_model.specs.ServerCalls.{Finishes, Replies, after_next, finish_rep
 use Rattle.ca_model.specs.ServerSteps.{reached, stored_now, write_mask}
 use Rattle.ca_model.specs.Speech.{In, Stored}
 use Rattle.ca_model.specs.Events as event
-use Rattle.ca_model.specs.Runs.{CanBe, IsServer}
+use Rattle.ca_model.specs.Runs.{IsServer}
 use Rattle.ca_model.specs.ServerEvents.{about, ending, ends_by, finish_entry, first_of, keys_concerned, next_busy, next_entries, next_numbers, numbers_posted, replied_at, reported, server_after, with_number, with_record, withdrawals, without_puts}
 use Rattle.ca_model.specs.World.{PutPlace, grown}
 use Rattle.ca_model.specs.World as model
@@ -182,36 +182,6 @@ none-behind waited bytes ms behind few = elim behind.few [
       absurd (omega (arith, all, size, long, begun, few))
 ]
 
-drop-begun : (xs ys : List ℕ) → drop (length xs) (xs ++ ys) ≡ ys
-drop-begun [] ys = refl
-drop-begun (x ∷ xs) ys = drop-begun xs ys
-
--- else one is
-pub record OneBehind (waited : ℕ) (bytes : List ℕ) (ms : List Fields) : Type 0 where
-  pub m : Fields
-  pub is : ms ≡ m ∷ []
-  pub good : IsMessage m
-  pub header_only : m.payload ≡ []
-  pub begins : drop waited bytes ≡ spelling m ++ []
-
-pub one-behind : (waited : ℕ) (bytes : List ℕ) (ms : List Fields) → AreBehind waited bytes ms → waited < length bytes → OneBehind waited bytes ms
-one-behind waited bytes ms behind more = elim behind.few [
-  | inl none ↦
-      let are : bytes ≡ behind.begun ++ [] = behind.are ∙ ap (λ (z : List Fields). behind.begun ++ spelled z) none in
-      let all : length bytes ≡ length behind.begun = ap length (are ∙ append-nil behind.begun) in
-      let begun : length behind.begun ≡ waited = behind.long in
-      absurd (omega (arith, all, begun, more))
-  | inr one ↦
-      let are : bytes ≡ behind.begun ++ spelled (one.0 ∷ []) = behind.are ∙ ap (λ (z : List Fields). behind.begun ++ spelled z) one.1 in
-      record {
-        m = one.0;
-        is = one.1;
-        good = one.2;
-        header_only = one.3;
-        begins = (λ t. drop (sym behind.long t) (are t)) ∙ drop-begun behind.begun (spelled (one.0 ∷ []));
-      }
-]
-
 -- ---- circuits
 
 -- a circuit, whose messages down are others, has the same numbers
@@ -252,18 +222,6 @@ refuses y name none = go (record_named y.records name) refl none
     go : (o : Option Record) → record_named y.records name ≡ o → value_busy o ≡ None → (e : Refusal) × Finishes y name [] (Err e) y
     go None named none = (UnknownRecord, (named, refl, refl))
     go (Some c) named none = on c named c.busy refl none
-
--- a record that is busy is not
-pub not-refused : (y core : Server) (name : List ℕ) (sent : List (Handle × Fields)) (e : Refusal) (b : Put) → Finishes y name sent (Err e) core → IsBusy y name b → ⊥
-not-refused y core name sent UnknownRecord b d is = absurd (none-some is.c (sym d.0 ∙ is.named))
-  where
-    none-some : (c : Record) → (let o : Option Record = None in o ≡ Some c) → ⊥
-    none-some c e = cc
-not-refused y core name sent NotBusy b d is = (let same : d.0.0 ≡ is.c = some_is d.0.0 is.c (sym d.0.1 ∙ is.named) in absurd (none-some b (sym d.0.2 ∙ ap (λ (z : Record). z.busy) same ∙ is.busy)))
-  where
-    none-some : (c : Put) → (let o : Option Put = None in o ≡ Some c) → ⊥
-    none-some c e = cc
-not-refused y core name sent e b d is = absurd d
 
 -- ---- in every run
 
@@ -349,10 +307,6 @@ if_waits waits i core name j = if waits then numbers_posted i core name write_ma
 numbered-map : (waits : Bool) (i : ℕ) (core : Server) (name : List ℕ) (ks : List model.Joined) → numbered waits i core name ks ≡ map (if_waits waits i core name) ks
 numbered-map true i core name ks = refl
 numbered-map false i core name ks = sym (map-same (λ j. j) ks (λ j. refl))
-
-keeps-numbers : (waits : Bool) (i : ℕ) (core : Server) (name : List ℕ) (j : model.Joined) → KeepsEnds j (if_waits waits i core name j)
-keeps-numbers true i core name j = posted-keeps i core name write_mask j
-keeps-numbers false i core name j = ends-stay j j refl
 
 -- the circuit with other messages down has the same numbers
 down-posted : (d : List history.Told) (i : ℕ) (core : Server) (name : List ℕ) (j : model.Joined) → numbers_posted i core name write_mask (with_down d j) ≡ with_down d (numbers_posted i core name write_mask j)
@@ -773,10 +727,3 @@ module _ (cs : List ClientSide) (ss : List ServerSide) (ks : List Joined) (cl : 
   finish-indexed numbers y' ks' sl' (Err OutOfMemory) (busy, is_y, is_k, is_l) h =
       indexed-server numbers ss i y y' (map joined_of ks) (map joined_of ks') at (ap (λ (z : ServerSide). z.circuits.items) is_y) is_k h
   finish-indexed numbers y' ks' sl' (Err _) d h = absurd d
-
--- no server
-pub finish-none : (cs : List ClientSide) (ss : List ServerSide) (ks : List Joined) (cl : List (List history.Line)) (sl : List (List history.Entry)) (m i : ℕ) (name : List ℕ) → length ss ≤ i → CanBe (world_of cs ss ks cl sl m) (event.Finish i name) → ⊥
-finish-none cs ss ks cl sl m i name over can =
-    let d = At-mapped server_of ss i can.y can.at in
-    let within = At-within ss i d.0 d.1 in
-    absurd (omega (arith, within, over))

@@ -1,5 +1,5 @@
 -- A value is posted at a server, from what its parts became.
-use Rattle.std.proofs.Common.{◌≡◌, ℕ, zero, suc, ◌≤◌, ◌==◌, ◌&&◌, inl, inr, Bool, true, false, List, [], ◌∷◌, Option, Some, None, Result, Ok, Err, length, refl, sym, ap, subst, ◌∙◌, arith}
+use Rattle.std.proofs.Common.{◌≡◌, ℕ, zero, suc, ◌==◌, ◌&&◌, inl, inr, Bool, true, false, List, [], ◌∷◌, Option, Some, None, Result, Ok, Err, refl, sym, ap, subst, ◌∙◌}
 use Rattle.std.specs.Prelude.{filter, if◌then◌else◌, is_some, map, option_map, slice_set, unwrap_or}
 use Rattle.std.specs.List.{fold}
 use Rattle.ca_arena.specs.declared.handle.Handle.{Handle}
@@ -23,7 +23,7 @@ use Rattle.ca_model.specs.ServerCalls.{Posts}
 use Rattle.ca_model.specs.ServerSteps.{reached}
 use Rattle.ca_model.specs.Speech.{Stored}
 use Rattle.ca_model.specs.Events.{Post}
-use Rattle.ca_model.specs.Runs.{CanBe, IsServer}
+use Rattle.ca_model.specs.Runs.{IsServer}
 use Rattle.ca_model.specs.ServerEvents.{ending, ends_by, keys_concerned, left_by, numbers_posted, posted_entry, reported, server_closed, withdrawals, with_number, without_puts}
 use Rattle.ca_model.specs.World.{grown}
 use Rattle.ca_model.specs.World as model
@@ -288,10 +288,3 @@ module _ (cs : List ClientSide) (ss : List ServerSide) (ks : List Joined) (cl : 
   post-indexed numbers y' ks' sl' (Err OutOfMemory) (fits, is_y, is_k, is_l) h =
       indexed-server numbers ss i y y' (map joined_of ks) (map joined_of ks') at (ap (λ (z : ServerSide). z.circuits.items) is_y) is_k h
   post-indexed numbers y' ks' sl' (Err _) d h = absurd d
-
--- no server
-pub post-none : (cs : List ClientSide) (ss : List ServerSide) (ks : List Joined) (cl : List (List Line)) (sl : List (List Entry)) (m i : ℕ) (name : List ℕ) (e : Elements) (mask : ℕ) → length ss ≤ i → CanBe (world_of cs ss ks cl sl m) (Post i name e mask) → ⊥
-post-none cs ss ks cl sl m i name e mask over can =
-    let d = At-mapped server_of ss i can.y can.at in
-    let within = Rattle.ca_text.proofs.Places.At-within ss i d.0 d.1 in
-    absurd (omega (arith, within, over))

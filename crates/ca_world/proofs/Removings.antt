@@ -14,7 +14,7 @@ use Rattle.ca_queue.proofs.Circuits.{set-twice}
 use Rattle.ca_text.specs.declared.refusal.Refusal.{Refusal}
 use Rattle.ca_text.specs.declared.refusal.Refusal.TheVariants.{OutOfMemory, UnknownRecord}
 use Rattle.ca_text.specs.Place.{At}
-use Rattle.ca_text.proofs.Places.{At-map, At-mapped, At-within}
+use Rattle.ca_text.proofs.Places.{At-map, At-mapped}
 use Rattle.ca_wire.specs.Fields.{Fields}
 use Rattle.ca_wire.specs.declared.header.Header.{Header}
 use Rattle.ca_wire.specs.Header.{header_spelling}
@@ -27,7 +27,7 @@ use Rattle.ca_model.specs.History.{Entry, Line, Told}
 use Rattle.ca_model.specs.Server.{Ended, Open, OpenChannel, Server, ServerCircuit}
 use Rattle.ca_model.specs.ServerCalls.{Removes, channels_of, circuit_without, disconnects, end_without}
 use Rattle.ca_model.specs.Events.{Remove}
-use Rattle.ca_model.specs.Runs.{CanBe, IsServer}
+use Rattle.ca_model.specs.Runs.{IsServer}
 use Rattle.ca_model.specs.ServerEvents.{disconnected_at, ending, ends_at, ends_by, removal_entries, removal_told, removed_at, reported, withdrawals, without_puts, without_standing}
 use Rattle.ca_model.specs.World.{grown}
 use Rattle.ca_model.specs.World as model
@@ -368,10 +368,3 @@ module _ (cs : List ClientSide) (ss : List ServerSide) (ks : List Joined) (cl : 
   remove-indexed numbers y' ks' sl' (Err OutOfMemory) (held, is_y, is_k, is_l) h =
       indexed-server numbers ss i y y' (map joined_of ks) (map joined_of ks') at (ap (λ (z : ServerSide). z.circuits.items) is_y) is_k h
   remove-indexed numbers y' ks' sl' (Err _) d h = absurd d
-
--- no server
-pub remove-none : (cs : List ClientSide) (ss : List ServerSide) (ks : List Joined) (cl : List (List Line)) (sl : List (List Entry)) (m i : ℕ) (name : List ℕ) → length ss ≤ i → CanBe (world_of cs ss ks cl sl m) (Remove i name) → ⊥
-remove-none cs ss ks cl sl m i name over can =
-    let d = At-mapped server_of ss i can.y can.at in
-    let within = At-within ss i d.0 d.1 in
-    absurd (omega (arith, within, over))

@@ -5,11 +5,9 @@ use Rattle.ca_arena.specs.declared.handle.Handle.{Handle}
 use Rattle.ca_text.specs.declared.refusal.Refusal.{Refusal}
 use Rattle.ca_text.specs.declared.refusal.Refusal.TheVariants.{BadEvent, OutOfMemory}
 use Rattle.ca_text.specs.Place.{At}
-use Rattle.ca_text.proofs.Places.{At-map, At-one, some_is}
+use Rattle.ca_text.proofs.Places.{At-map, At-one}
 use Rattle.ca_model.specs.Answers.{Sending}
-use Rattle.ca_model.specs.Client.{Client, On, Standing}
-use Rattle.ca_model.specs.Client as phase
-use Rattle.ca_model.specs.ClientCalls.{IsLive, LiveChannel}
+use Rattle.ca_model.specs.Client.{Client}
 use Rattle.ca_model.specs.History.{Line}
 use Rattle.ca_model.specs.History as history
 use Rattle.ca_model.specs.ClientEvents.{Called, client_after}
@@ -75,17 +73,6 @@ calls-keep i Named Answers spoken names lines x x' logs logs' ks ks' (Ok u) (h, 
 calls-keep i Named Answers spoken names lines x x' logs logs' ks ks' (Err OutOfMemory) d cs ss is = indexed-same cs cs ss ss ks ks' refl refl d.4 is
 calls-keep i Named Answers spoken names lines x x' logs logs' ks ks' (Err BadEvent) d cs ss is = indexed-same cs cs ss ss ks ks' refl refl d.3 is
 calls-keep i Named Answers spoken names lines x x' logs logs' ks ks' (Err _) d cs ss is = absurd d
-
--- a channel is live in one way
-pub live-once : (x : Client) (h : Handle) (l m : LiveChannel) → IsLive x h l → IsLive x h m → l ≡ m
-live-once x h l m is also = parts (some_is (On l.circuit (phase.Live l.native l.rights)) (On m.circuit (phase.Live m.native m.rights)) (sym is ∙ also))
-  where
-    there : Standing → LiveChannel
-    there (On c (phase.Live n rights)) = record { circuit = c; native = n; rights = rights }
-    there s = l
-
-    parts : On l.circuit (phase.Live l.native l.rights) ≡ On m.circuit (phase.Live m.native m.rights) → l ≡ m
-    parts e = ap there e
 
 -- no channel, and no subscription, has this number
 pub no-channel : (w : model.World) (i c : ℕ) (x : model.ClientSide) → At w.clients i x → ((h : Handle) → At x.names.channels c h → ⊥) → HadChannel w i c → ⊥

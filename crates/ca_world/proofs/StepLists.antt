@@ -86,8 +86,3 @@ module _ (i : ℕ) (core : Server) (action : Action) (ks : List Joined) (k : ℕ
   ending-aside =
       ap (map (ending (ends_by i core))) writes-aside ∙ set-map (ending (ends_by i core)) (map writes ks) k (with_lists d s (writes j))
       ∙ ap (slice_set (map (ending (ends_by i core)) (map writes ks)) k) (ending-lists d s (ends_by i core) (writes j) refl)
-
--- What a message does to its circuit, the numbers that wait there and how it ends leave
--- these lists as they are.
-abbrev Lasts : Joined → Joined → Type 0
-Lasts j new = (new.lists.down ≡ j.lists.down) × (new.lists.handled ≡ j.lists.handled)

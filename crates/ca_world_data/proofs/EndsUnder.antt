@@ -1,6 +1,6 @@
 -- The end that a step closed and those that ended beside it: what is told, withdrawn and closed is
 -- all.
-use Rattle.std.proofs.Common.{◌≡◌, ℕ, zero, suc, ◌==◌, ◌&&◌, ◌||◌, Bool, true, false, List, [], ◌∷◌, Option, Some, None, refl, sym, ap, subst, ◌∙◌, arith}
+use Rattle.std.proofs.Common.{◌≡◌, ℕ, zero, suc, ◌==◌, ◌&&◌, Bool, true, false, List, [], ◌∷◌, Option, Some, None, refl, sym, ap, subst, ◌∙◌, arith}
 use Rattle.std.specs.Prelude.{if◌then◌else◌, is_some, map, option_map, slice_get, slice_set, unwrap_or, Vec}
 use Rattle.std.specs.declared.alloc.Global.{Global}
 use Rattle.std.proofs.lemmas.Bool.{and_parts, eq-eqb, eqb-true}
@@ -36,14 +36,6 @@ module _ (h : Handle) (i : ℕ) where
       let a = and_parts (same_handle c.at_server h) (c.server == i && c.lists.server_open) is in
       let b = and_parts (c.server == i) c.lists.server_open a.1 in
       (eqb-true c.server i b.0, b.1, same-is c.at_server h a.0)
-
-  -- whether it ends, as the code asks
-  pub either-goes : (core : Server) (c : Joined) → (is_it c || is_some (ends_by i core c)) ≡ is_some (ends_under h [] i core c)
-  either-goes core c = go (is_it c)
-    where
-      go : (b : Bool) → (b || is_some (ends_by i core c)) ≡ is_some (if b then Some [] else ends_by i core c)
-      go true = refl
-      go false = refl
 
   module _ (left : List ℕ) where
     -- what it leaves plays no part

@@ -15,13 +15,6 @@ within-more n k (a ∷ []) le within = omega (arith, le, within)
 within-more n k (a ∷ b ∷ []) le within = (let first = within.0 in omega (arith, le, first), within.1)
 within-more n k (a ∷ b ∷ c ∷ ms) le within = absurd within
 
-some-long : (m : Fields) (rest : List ℕ) → spelling m ++ rest ≡ [] → ⊥
-some-long m rest none =
-    let long = spelling-long m in
-    let size = length-append (spelling m) rest in
-    let empty : length (spelling m ++ rest) ≡ 0 = ap (λ (l : List ℕ). length l) none in
-    omega (arith, long, size, empty)
-
 -- no bytes, no message
 pub none-spelled : (ms : List Fields) → length (spelled ms) ≡ 0 → ms ≡ []
 none-spelled [] none = refl

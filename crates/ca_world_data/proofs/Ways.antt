@@ -29,10 +29,6 @@ clear-dead x h ks i w dead none = go (standing_at x h) refl
     go (Some (On c Clearing)) is = none
     go (Some (On c Doomed)) is = none
 
--- that of a live one goes on its circuit
-pub clear-live : (x : Client) (h : Handle) (ks : List Joined) (i : ℕ) (w : ChannelRoute) (l : LiveChannel) → IsLive x h l → w.sid ≡ l.native.sid → GoesBy w.circuit ks i l.circuit → IsClearWay x ks i h w
-clear-live x h ks i w l is sid goes = subst (λ (o : Option Standing). ClearsAs ks i w o) (sym is) (goes, sid)
-
 -- an EVENT_CANCEL goes where the CLEAR_CHANNEL of its channel would go
 pub cancel-way : (x : Client) (ks : List Joined) (i : ℕ) (w : Cancelling) (way : ChannelRoute) (o : SubscriptionAsked) → AsksFor x w.handle (Some o) → IsClearWay x ks i o.channel way → w.circuit ≡ way.circuit
     → w.wanted ≡ record { sid = way.sid; id = wire_of w.handle; data_type = o.data_type; count = o.count } → IsCancelWay x ks i w
