@@ -1,9 +1,10 @@
 //! Copies of the clients and servers of a script: drawing events needs a world of its own, before
 //! the world of the run.
-ghost use Rattle.std.specs.Prelude.{◌≡◌, IfOk, map, option_map};
+ghost use Rattle.std.specs.Prelude.{◌≡◌, IfOk, map};
 ghost use Rattle.ca_world_data.specs.Settings.{rule_of};
 
 use ca_world::{ClientSetting, RuleSetting, ServerSetting};
+use ca_world_data::opening::word_again;
 use std::alloc::{AllocError, Global};
 
 // These clients again.
@@ -71,9 +72,9 @@ fn rules_again(alloc: Global, rules: &[RuleSetting]) -> Result<Vec<RuleSetting>,
 fn rule_again(alloc: Global, rule: &RuleSetting) -> Result<RuleSetting, AllocError>
     ensures { IfOk result (λ r. rule_of r ≡ rule_of rule.now) }
 {
-    let user = name_again(alloc, &rule.user)?;
-    let host = name_again(alloc, &rule.host)?;
-    let record_name = name_again(alloc, &rule.record_name)?;
+    let user = word_again(alloc, &rule.user)?;
+    let host = word_again(alloc, &rule.host)?;
+    let record_name = word_again(alloc, &rule.record_name)?;
     Ok(RuleSetting {
         user,
         host,
@@ -81,15 +82,4 @@ fn rule_again(alloc: Global, rule: &RuleSetting) -> Result<RuleSetting, AllocErr
         reads: rule.reads,
         writes: rule.writes,
     })
-}
-
-// This name again, if there is one.
-fn name_again(alloc: Global, name: &Option<Vec<u8>>) -> Result<Option<Vec<u8>>, AllocError>
-    ensures { IfOk result (λ n.
-        option_map (λ v. v.items) n ≡ option_map (λ v. v.items) name.now) }
-{
-    match name {
-        None => Ok(None),
-        Some(name) => Ok(Some(Vec::from_slice(alloc, name)?)),
-    }
 }

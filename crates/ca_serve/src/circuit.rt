@@ -320,7 +320,7 @@ fn take_out<L: Ledger>(
         return Turn::Closed(left);
     }
     let is_all = socket.take_out(&mut locked.state, circuit) && !socket.is_at_most();
-    let is_idle = matches!(turn, Turn::Idle) && is_all && locked.state.is_open(circuit);
+    let is_idle = matches!(turn, Turn::Idle) && is_all && locked.state.core().is_open(circuit);
     locked.rest(circuit, is_idle);
     match turn {
         Turn::Idle if !is_idle => Turn::Busy,

@@ -151,7 +151,7 @@ fn answer<L: Ledger, D: Device, R: Wait>(
     from: SocketAddr,
     tally: &mut Tally,
 ) {
-    let answers = shared.locked.lock(rt).state.datagram(bytes);
+    let answers = shared.locked.lock(rt).state.core().datagram(bytes);
     let Ok(answers) = answers else {
         return;
     };

@@ -140,7 +140,7 @@ impl<L: Ledger, D: Device> SharedServer<L, D> {
     /// Tells the meter how many writes were applied.
     pub(crate) fn note_writes(&self, locked: &LockedServer<L>) {
         if let Some(meter) = &self.meter {
-            meter.note_writes(locked.state.applied());
+            meter.note_writes(locked.state.core().applied());
         }
     }
 
@@ -201,7 +201,7 @@ impl<L: Ledger> LockedServer<L> {
 
     // The record of this channel is to be processed.
     fn hand_on_of(&mut self, slow: &IndexSet<Vec<u8>>, circuit: Handle, sid: u32) {
-        let Some(name) = self.state.served_name(circuit, Sid::new(sid)) else {
+        let Some(name) = self.state.core().served_name(circuit, Sid::new(sid)) else {
             return;
         };
         if let Some(place) = slow.get_index_of(name) {
@@ -224,7 +224,7 @@ impl<L: Ledger> LockedServer<L> {
         }
         *reached = Some(sid);
         let LockedServer { state, bells, .. } = self;
-        if let Some(name) = state.served_name(circuit, Sid::new(sid)) {
+        if let Some(name) = state.core().served_name(circuit, Sid::new(sid)) {
             reach(state, bells, name, Some(circuit), rings);
         }
     }
@@ -244,7 +244,7 @@ impl<L: Ledger> LockedServer<L> {
             let Some(name) = slow.get_index(place) else {
                 return;
             };
-            if self.state.busy_value(name).is_some() {
+            if self.state.core().busy_value(name).is_some() {
                 self.hand_on(place);
             }
         }
@@ -285,19 +285,19 @@ impl<L: Ledger> LockedServer<L> {
         rings: &mut Rings,
     ) {
         self.stamp(rt);
-        if let Some(circuit) = self.state.busy_circuit(name) {
+        if let Some(circuit) = self.state.core().busy_circuit(name) {
             take(&mut self.bells, circuit, rings);
         }
-        let applied = self.state.applied();
+        let applied = self.state.core().applied();
         // Nobody else finishes it, so that this is not refused.
         let _refused = locked_finish(&mut self.state, name);
-        if self.state.applied() != applied {
+        if self.state.core().applied() != applied {
             reach(&self.state, &mut self.bells, name, None, rings);
         }
         if let Some(is_in_hand) = self.in_hand.get_mut(place) {
             *is_in_hand = false;
         }
-        if self.state.busy_value(name).is_some() {
+        if self.state.core().busy_value(name).is_some() {
             self.hand_on(place);
         }
     }
@@ -319,7 +319,7 @@ fn reach<L: Ledger>(
     but: Option<Handle>,
     rings: &mut Rings,
 ) {
-    let Some(watching) = state.watching(name) else {
+    let Some(watching) = state.core().watching(name) else {
         return;
     };
     for place in 0..watching.len() {

@@ -101,7 +101,7 @@ fn value_of<L: Ledger>(
     if locked.ending {
         return None;
     }
-    match locked.state.busy_value(name) {
+    match locked.state.core().busy_value(name) {
         Some(value) => Some(value.copy(alloc)),
         None => None,
     }

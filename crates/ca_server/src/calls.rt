@@ -1,29 +1,23 @@
-//! Calls of a server under its lock that pass on to the core.
-ghost use Rattle.std.specs.Prelude.{◌≡◌, Bool, Err, IfErr, IfOk, List, Ok, [], false};
-ghost use Rattle.std.specs.Prelude.{map, option_copied, option_map, unwrap_or, ℕ};
+//! Calls of a server under its lock that change the core: they pass on to it, and count no write.
+ghost use Rattle.std.specs.Prelude.{◌≡◌, Bool, IfErr, List, false, ℕ};
 ghost use Rattle.ca_arena.specs.declared.handle.Handle.{Handle};
 ghost use Rattle.ca_dbr.specs.Elements.{elements};
-ghost use Rattle.ca_ids.specs.Table.{has_free, under};
-ghost use Rattle.ca_model.specs.ServerCalls.{AddsRecord, AnswersDatagram, Beacons, Posts, Removes};
-ghost use Rattle.ca_model.specs.ServerCalls.{stamped};
+ghost use Rattle.ca_ids.specs.Table.{has_free};
 ghost use Rattle.ca_model.specs.Server.{Server};
+ghost use Rattle.ca_model.specs.ServerCalls.{AddsRecord, Beacons, Posts, Removes, stamped};
 ghost use Rattle.ca_model.specs.ServerSteps.{Accepts, Cuts, Gives, Pumps, Update};
 ghost use Rattle.ca_records.specs.Record.{unset};
-ghost use Rattle.ca_text.specs.declared.refusal.Refusal.TheVariants.{OutOfMemory};
-ghost use Rattle.ca_server_circuit.specs.Circuits.{is_open};
 ghost use Rattle.ca_server_circuit.specs.Outgoing.{bytes_of};
 ghost use Rattle.ca_server_core.specs.Pumping.{HandsOver};
-ghost use Rattle.ca_server_core.specs.Asking.{AreAllAmong, NamesUnder, busy_circuit, busy_value};
+ghost use Rattle.ca_text.specs.declared.refusal.Refusal.TheVariants.{OutOfMemory};
 
 use crate::state::State;
 use ca_arena::Handle;
 use ca_dbr::{Meta, Value};
-use ca_server_core::{Outgoing, RecordWatchers};
+use ca_server_core::Outgoing;
 use ca_text::Refusal;
-use ca_wire::Sid;
 use std::sync::ledger::Ledger;
 
-// The server's other calls under the lock. None of them counts a write.
 impl<L: Ledger> State<L> {
     /// A circuit is accepted, and gets a handle. Refused as ArenaFull if none may be given, then as
     /// OutOfMemory. A refusal changes nothing.
@@ -45,13 +39,6 @@ impl<L: Ledger> State<L> {
             × (self.new.credits.items ≡ self.old.credits.items) }
     {
         self.core.give(circuit, bytes)
-    }
-
-    /// Whether the end of a circuit is open.
-    pub fn is_open(&self, circuit: Handle) -> bool
-        ensures { result ≡ is_open (under self.now.core.circuits circuit) }
-    {
-        self.core.is_open(circuit)
     }
 
     /// Updates that wait on a circuit leave their queues until none may go, and then all bytes leave
@@ -76,55 +63,6 @@ impl<L: Ledger> State<L> {
             × (self.new.credits.items ≡ self.old.credits.items) }
     {
         self.core.cut(circuit);
-    }
-
-    /// The name of the record of the open channel of this SID on a circuit, if that record was not
-    /// removed. None if its end is not open.
-    pub fn served_name(&self, circuit: Handle, sid: Sid) -> Option<&[u8]>
-        ensures { NamesUnder (under self.now.core.circuits circuit) sid
-            (option_map (λ t. t.now) result) }
-    {
-        self.core.served_name(circuit, sid)
-    }
-
-    /// The value of the record of this name, if a put makes it busy: what a device is to process.
-    pub fn busy_value(&self, name: &[u8]) -> Option<&Value>
-        ensures { option_map (λ v. elements v.now) result ≡ busy_value self.now.core name.now }
-    {
-        self.core.busy_value(name)
-    }
-
-    /// The circuit of the put that makes the record of this name busy, which gets the reply of the
-    /// next finish. None if no put does, or no record has the name.
-    pub fn busy_circuit(&self, name: &[u8]) -> Option<Handle>
-        ensures { result ≡ busy_circuit self.now.core name.now }
-    {
-        self.core.busy_circuit(name)
-    }
-
-    /// The circuits that a write, a post or a finish of the record of this name may
-    /// have left updates on: each that has a subscription on the record is among them.
-    /// None if nobody has one.
-    ///
-    /// Others may be among them: right after such a call also those whose ends it ended, without
-    /// memory for their updates.
-    pub fn watching(&self, name: &[u8]) -> Option<&RecordWatchers>
-        ensures { AreAllAmong self.now.core name.now
-            (unwrap_or (option_copied result) []) }
-    {
-        self.core.watching(name)
-    }
-
-    /// The datagrams that answer a datagram: a reply for each search in it for a record that is
-    /// served, in their order.
-    ///
-    /// Refused as OutOfMemory, only if there is a message in it.
-    pub fn datagram(&self, bytes: &[u8]) -> Result<Vec<Vec<u8>>, Refusal>
-        ensures ok { IfOk result (λ v.
-            AnswersDatagram self.now.core bytes.now (Ok (map (λ d. d.items) v.items))) }
-        ensures err { IfErr result (λ e. AnswersDatagram self.now.core bytes.now (Err e)) }
-    {
-        self.core.datagram(bytes)
     }
 
     /// The beacon that is due at this moment, once: 16 bytes, to be sent in a datagram of their

@@ -58,11 +58,11 @@ impl<L: Ledger> State<L> {
             ≤ applied_limit }
     {}
 
-    /// How many writes were applied.
-    pub fn applied(&self) -> u64
-        ensures { result ≡ self.now.core.applied }
+    /// The core, to be read.
+    pub fn core(&self) -> &ServerCore
+        ensures { result.now ≡ self.now.core }
     {
-        self.core.applied()
+        &self.core
     }
 
     /// The count, for a caller that has all shares: it is their sum.

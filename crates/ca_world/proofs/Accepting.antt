@@ -23,6 +23,7 @@ use Rattle.ca_model.specs.Events.{Accept}
 use Rattle.ca_model.specs.Runs.{CanAccept, CanBe}
 use Rattle.ca_model.specs.World.{Names}
 use Rattle.ca_model.specs.World as model
+use Rattle.ca_model.proofs.Handles.{same-is, same-itself}
 use Rattle.ca_laws_runs.specs.Quiet.{ClientsQuiet}
 use Rattle.ca_laws_parts.specs.Clients.{ClientsStand}
 use Rattle.ca_laws_parts.proofs.Accepts.{sent-here}
@@ -41,7 +42,6 @@ use Rattle.ca_world_data.specs.Logs.{lines_in}
 use Rattle.ca_world_data.specs.Seen.{client_of, joined_of, named_of, server_of}
 use Rattle.ca_world_data.specs.Speaking.{sent_up, stamped}
 use Rattle.ca_world_data.proofs.Accepted.{IsFirstServed, served-none}
-use Rattle.ca_world_data.proofs.Sendings.{same-is, same-itself}
 use Rattle.ca_world_data.proofs.Worlds.{both-ways, set-map, set-same, world_of}
 use Rattle.ca_world.specs.Whole.{IsReached}
 use Rattle.ca_world.proofs.Cuttings.{run-stands}

@@ -7,12 +7,12 @@ use Rattle.ca_records.specs.Record.{RecordState}
 use Rattle.ca_text.specs.declared.refusal.Refusal.{Refusal}
 use Rattle.ca_text.specs.declared.refusal.Refusal.TheVariants.{OutOfMemory}
 use Rattle.ca_text.specs.Place.{At}
-use Rattle.ca_text.proofs.Places.{At-map, At-mapped, At-within, some_is}
+use Rattle.ca_text.proofs.Places.{At-map, At-mapped, some_is}
 use Rattle.ca_model.specs.History.{Entry, Line}
 use Rattle.ca_model.specs.Server.{Server}
 use Rattle.ca_model.specs.ServerCalls.{AddsRecord}
 use Rattle.ca_model.specs.Events.{Add}
-use Rattle.ca_model.specs.Runs.{CanBe, IsServer}
+use Rattle.ca_model.specs.Runs.{IsServer}
 use Rattle.ca_model.specs.World as model
 use Rattle.ca_laws_parts.specs.Agrees.{Agrees, AreOthers, Lack}
 use Rattle.ca_laws_parts.specs.Lives.{IsPutOf}
@@ -23,10 +23,10 @@ use Rattle.ca_server_core.proofs.Ordered.{named-some}
 use Rattle.ca_world_data.specs.declared.client.ClientSide.{ClientSide}
 use Rattle.ca_world_data.specs.declared.joined.Joined.{Joined}
 use Rattle.ca_world_data.specs.declared.server.ServerSide.{ServerSide}
-use Rattle.ca_world_data.specs.Does.{Does, MayLack}
+use Rattle.ca_world_data.specs.Does.{Does}
 use Rattle.ca_world_data.specs.Seen.{client_of, joined_of, server_of}
-use Rattle.ca_world_data.proofs.Worlds.{set-map, set-same, world_of}
-use Rattle.ca_world.specs.Adding.{AddsAt, AreInOrder, AreLike, Settles, StandsBehind}
+use Rattle.ca_world_data.proofs.Worlds.{server-stays, set-map, world_of}
+use Rattle.ca_world.specs.Adding.{AddsAt, AreInOrder, AreLike, StandsBehind}
 use Rattle.ca_world.specs.Whole.{IsReached}
 
 -- ---- one more among others
@@ -163,15 +163,10 @@ stands-behind s y core n m rs adds order within before behind =
 pub adds-behind : (s : RecordState) (y core : Server) (n m : ℕ) → AddsRecord y s n (Ok tt) core → take m y.records ≡ take n y.records → drop m y.records ≡ drop n y.records → AddsRecord y s m (Ok tt) core
 adds-behind s y core n m adds before behind = (adds.0, adds.1 ∙ sym (λ t. record y { records = before t ++ new_record s ∷ behind t }))
 
-adds-same : (s : RecordState) (y core : Server) (n : ℕ) (e : Refusal) → AddsRecord y s n (Err e) core → core ≡ y
+-- what its core refused changed nothing
+pub adds-same : (s : RecordState) (y core : Server) (n : ℕ) (e : Refusal) → AddsRecord y s n (Err e) core → core ≡ y
 adds-same s y core n OutOfMemory d = d.1
 adds-same s y core n e d = d.1
-
--- what its core refused
-pub adds-settled : (s : RecordState) (y y' : model.ServerSide) (core : Server) (n : ℕ) (e : Refusal) (r : Result (Unit {0}) Refusal) (logs mid : List (List Entry)) → AddsRecord y.core s n (Err e) core → Settles e r → y' ≡ record y { core = core } → mid ≡ logs → AddsAt s y logs r y' mid
-adds-settled s y y' core n e (Ok u) logs mid d other is is_l = (core, n, inr (e, other, d, is ∙ (λ t. record y { core = adds-same s y.core core n e d t }), is_l))
-adds-settled s y y' core n e (Err OutOfMemory) logs mid d lacks is is_l = (is ∙ (λ t. record y { core = adds-same s y.core core n e d t }), is_l)
-adds-settled s y y' core n e (Err _) logs mid d other is is_l = absurd other
 
 -- ---- in every run
 
@@ -216,18 +211,8 @@ module _ (cs : List ClientSide) (ss : List ServerSide) (ks : List Joined) (cl : 
   abbrev there : IsServer (world_of cs ss ks cl sl m) i
   there = record { y = server_of y; at = At-map server_of ss i y at }
 
-  stay : (y' : ServerSide) (sl' : List (List Entry)) → server_of y' ≡ server_of y → sl' ≡ sl → world_of cs (slice_set ss i y') ks cl sl' m ≡ world_of cs ss ks cl sl m
-  stay y' sl' is_y is_l = λ t. record {
-    clients = map client_of cs;
-    servers = (set-map server_of ss i y' ∙ ap (slice_set (map server_of ss) i) is_y ∙ set-same (map server_of ss) i (server_of y) (At-map server_of ss i y at)) t;
-    circuits = map joined_of ks;
-    client_logs = cl;
-    server_logs = is_l t;
-    moment = m;
-  }
-
-  pub add-does : MayLack (world_of cs ss ks cl sl m) (Add i s) → (y' : ServerSide) (sl' : List (List Entry)) (r : Result (Unit {0}) Refusal) → AddsAt s (server_of y) sl r (server_of y') sl' → Does (world_of cs ss ks cl sl m) (Add i s) r (world_of cs (slice_set ss i y') ks cl sl' m)
-  add-does may y' sl' (Ok u) (core, behind, inl (adds, is_y, is_l)) = (
+  pub add-does : (y' : ServerSide) (sl' : List (List Entry)) (r : Result (Unit {0}) Refusal) → AddsAt s (server_of y) sl r (server_of y') sl' → Does (world_of cs ss ks cl sl m) (Add i s) r (world_of cs (slice_set ss i y') ks cl sl' m)
+  add-does y' sl' (Ok u) (core, behind, inl (adds, is_y, is_l)) = (
     there,
     (
       core,
@@ -245,13 +230,6 @@ module _ (cs : List ClientSide) (ss : List ServerSide) (ks : List Joined) (cl : 
       ),
     ),
   )
-  add-does may y' sl' (Ok u) (core, behind, inr (e, other, adds, is_y, is_l)) = (there, (core, behind, inr (e, other, adds, stay y' sl' is_y is_l)))
-  add-does may y' sl' (Err OutOfMemory) (is_y, is_l) = (may, stay y' sl' is_y is_l)
-  add-does may y' sl' (Err _) d = absurd d
-
--- no server
-pub add-none : (cs : List ClientSide) (ss : List ServerSide) (ks : List Joined) (cl : List (List Line)) (sl : List (List Entry)) (m i : ℕ) (s : RecordState) → length ss ≤ i → CanBe (world_of cs ss ks cl sl m) (Add i s) → ⊥
-add-none cs ss ks cl sl m i s over can =
-    let d = At-mapped server_of ss i can.y can.at in
-    let within = At-within ss i d.0 d.1 in
-    absurd (omega (arith, within, over))
+  add-does y' sl' (Ok u) (core, behind, inr (e, other, adds, is_y, is_l)) = (there, (core, behind, inr (e, other, adds, server-stays cs ss ks ks cl sl sl' m i y y' at is_y refl is_l)))
+  add-does y' sl' (Err OutOfMemory) (may, is_y, is_l) = ((there, may), server-stays cs ss ks ks cl sl sl' m i y y' at is_y refl is_l)
+  add-does y' sl' (Err _) d = absurd d

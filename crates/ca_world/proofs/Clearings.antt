@@ -1,7 +1,6 @@
 -- A client clears a channel, from what its parts became.
-use Rattle.std.proofs.Common.{◌≡◌, ℕ, ◌≤◌, inr, List, [], Option, Some, Result, Ok, Err, refl, sym, ap, subst, ◌∙◌, arith}
-use Rattle.std.specs.Prelude.{map, Vec}
-use Rattle.std.specs.declared.alloc.Global.{Global}
+use Rattle.std.proofs.Common.{◌≡◌, ℕ, inr, List, [], Option, Some, Result, Ok, Err, refl, sym, ap, subst, ◌∙◌}
+use Rattle.std.specs.Prelude.{map}
 use Rattle.ca_arena.specs.declared.handle.Handle.{Handle}
 use Rattle.ca_ids.specs.Wire.{wire_of}
 use Rattle.ca_text.specs.declared.refusal.Refusal.{Refusal}
@@ -17,22 +16,17 @@ use Rattle.ca_model.specs.ClientEvents.{channel_number}
 use Rattle.ca_model.specs.Events.{Clear}
 use Rattle.ca_model.specs.World.{ClientSide, Joined, Names, grown}
 use Rattle.ca_model.specs.World as model
-use Rattle.ca_world_data.specs.declared.history.Line.{Line as Written}
 use Rattle.ca_world_data.specs.declared.way.ChannelRoute.{ChannelRoute}
 use Rattle.ca_world_data.specs.Clears.{ClearsAs, ClearsOn, IsClearWay, clear_lines}
 use Rattle.ca_world_data.specs.Does.{Does}
 use Rattle.ca_world_data.specs.Found.{AreNumbered}
 use Rattle.ca_world_data.specs.Indexed.{AreIndexed}
-use Rattle.ca_world_data.specs.Logs.{HasRoom, Notes}
+use Rattle.ca_world_data.specs.Logs.{Notes}
 use Rattle.ca_world_data.specs.Puts.{AreOnce}
 use Rattle.ca_world_data.specs.Speaking.{GoesUp, sent_up, stamped}
 use Rattle.ca_world_data.proofs.Sendings.{sent-by}
 use Rattle.ca_world.proofs.Cancellings.{none-up}
 use Rattle.ca_world.proofs.Speeches.{call-noted, calls-keep, calls-ok, no-channel, spoken-same, spoken_in}
-
--- room for more is room for fewer
-pub room-fewer : (m n life : ℕ) (logs : List (Vec Written Global)) → n ≤ m → HasRoom m life logs → HasRoom n life logs
-room-fewer m n life logs le room log at = (let r = room log at in omega (arith, le, r))
 
 -- the CLEAR_CHANNEL went on its circuit, if one is sent
 clear-goes : (i : ℕ) (n : Names) (c : ℕ) (h : Handle) (ks ks' : List Joined) (numbers : List ℕ) (w : ChannelRoute) (s : Standing) → AreNumbered numbers ks i → channel_number n h ≡ c → ClearsAs ks i w (Some s)

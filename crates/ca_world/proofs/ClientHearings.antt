@@ -26,9 +26,9 @@ use Rattle.ca_world_data.specs.Indexed.{AreIndexed}
 use Rattle.ca_world_data.specs.Speaking.{sent_up}
 use Rattle.ca_world_data.proofs.Indexes.{indexed-map}
 use Rattle.ca_world_data.proofs.Momentary.{sent-keeps}
+use Rattle.ca_world_data.proofs.Silences.{grown-nil}
 use Rattle.ca_world.specs.Passing.{Passes}
 use Rattle.ca_world.proofs.Cancellings.{none-up}
-use Rattle.ca_world.proofs.Downward.{grown-none}
 use Rattle.ca_world.proofs.Speeches.{spoken-same, spoken_in}
 
 -- ---- a datagram without a message
@@ -81,7 +81,7 @@ passed i a x y x' ks ks' e (Err f) none d (same, side) =
 pub hears-does : (w : World) (i : ℕ) (x x' : ClientSide) (from : Address) (bytes : List ℕ) (ks : List Joined) (r : Result (Unit {0}) Refusal) → At w.clients i x
     → HearsDatagram i (record { now = w.moment; from = from; bytes = bytes }) x w.circuits r x' ks → OnErr r (NoneBegins bytes → ⊥) → Does w (ClientDatagram i from bytes) r (spoken_in i x' w.client_logs ks w)
 hears-does w i x x' from bytes ks (Ok u) at (sent, does, side, goes) may =
-    (record { x = x; at = at }, (sent, x'.core, does, λ t. record w { clients = slice_set w.clients i (side t); client_logs = sym (grown-none x.life w.client_logs) t; circuits = goes t }))
+    (record { x = x; at = at }, (sent, x'.core, does, λ t. record w { clients = slice_set w.clients i (side t); client_logs = sym (grown-nil x.life w.client_logs) t; circuits = goes t }))
 hears-does w i x x' from bytes ks (Err OutOfMemory) at d may =
     ((record { x = x; at = at }, may), spoken-same i x x' w.client_logs ks w at d.0 refl d.1)
 hears-does w i x x' from bytes ks (Err _) at d may = absurd d

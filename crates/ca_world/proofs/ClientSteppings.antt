@@ -1,5 +1,5 @@
 -- What a step of a client's end makes of a world.
-use Rattle.std.proofs.Common.{◌≡◌, ◌⊎◌, ℕ, ◌+◌, ◌<◌, ◌≤◌, ◌==◌, true, false, List, [], ◌∷◌, ◌++◌, Option, Some, None, Result, Ok, Err, length, refl, sym, ap, subst, ◌∙◌, arith}
+use Rattle.std.proofs.Common.{◌≡◌, ℕ, ◌+◌, ◌<◌, true, false, List, Option, Some, None, Result, Ok, Err, length, refl, sym, ap, subst, ◌∙◌, arith}
 use Rattle.std.specs.Prelude.{OnErr, if◌then◌else◌, map, slice_set, Vec}
 use Rattle.std.specs.declared.alloc.Global.{Global}
 use Rattle.std.proofs.lemmas.List.{length-map}
@@ -13,7 +13,6 @@ use Rattle.ca_model.specs.Answers as notice
 use Rattle.ca_model.specs.Client.{Client, Connection, connection_at}
 use Rattle.ca_model.specs.ClientEnds.{ClientSteps}
 use Rattle.ca_model.specs.ClientEnds as client
-use Rattle.ca_model.specs.Hears.{left}
 use Rattle.ca_model.specs.History.{Entry, Line, OfCircuit, Step}
 use Rattle.ca_model.specs.ClientEvents.{client_closed, client_stepped, heard_in, lines_of, waiting_down}
 use Rattle.ca_model.specs.Events.{ClientStep}
@@ -38,6 +37,7 @@ use Rattle.ca_world_data.proofs.Calls.{after-quiet}
 use Rattle.ca_world_data.proofs.Tellings.{step-tells}
 use Rattle.ca_world_data.proofs.Indexes.{KeepsEnds, indexed-circuit, indexed-map}
 use Rattle.ca_world_data.proofs.Worlds.{none-joined, one-at, same-circuit, world_of}
+use Rattle.ca_world_data.proofs.Momentary.{sent-keeps}
 use Rattle.ca_world.specs.declared.world.World.TheInside.{Inside}
 use Rattle.ca_world.specs.Resting.{ComesDown, HearsOrRests}
 use Rattle.ca_world.specs.Whole.{Stands, seen}
@@ -80,9 +80,6 @@ may-one (Err e) k x ks j at may = may j at
 heard-ends : (s : Step) (j : Joined) → KeepsEnds j (heard_in s j)
 heard-ends s j = record { client = refl; server = refl; at_client = refl; at_server = refl; closes = λ on. on; stops = λ on. on }
 
-sent-ends : (i : ℕ) (n : model.Names) (sent : List Sending) (j : Joined) → KeepsEnds j (sent_up i n sent j)
-sent-ends i n sent j = record { client = refl; server = refl; at_client = refl; at_server = refl; closes = λ on. on; stops = λ on. on }
-
 closed-ends : (bytes : List ℕ) (j : Joined) → KeepsEnds j (client_closed bytes j)
 closed-ends bytes j = record { client = refl; server = refl; at_client = refl; at_server = refl; closes = λ on. absurd cc; stops = λ on. on }
 
@@ -93,7 +90,7 @@ steps-keep i k j x x' logs logs' ks ks' (Ok u) at (did, sent, steps, side, leave
     go notice.NeedBytes l = subst (λ (z : List Joined). AreIndexed cs ss z) (sym l.1) h
     go (notice.Notices told) l =
         subst (λ (z : List Joined). AreIndexed cs ss z) (sym l.1)
-        (indexed-map cs ss (slice_set ks k (heard_in (step_at j _ _) j)) (indexed-circuit cs ss ks h k j (heard_in (step_at j _ _) j) at (heard-ends (step_at j _ _) j)) (sent_up i x.names sent) (sent-ends i x.names sent))
+        (indexed-map cs ss (slice_set ks k (heard_in (step_at j _ _) j)) (indexed-circuit cs ss ks h k j (heard_in (step_at j _ _) j) at (heard-ends (step_at j _ _) j)) (sent_up i x.names sent) (sent-keeps i x.names sent))
     go (notice.Closed c) l = subst (λ (z : List Joined). AreIndexed cs ss z) (sym l.1) (indexed-circuit cs ss ks h k j (client_closed c.left j) at (closed-ends c.left j))
 steps-keep i k j x x' logs logs' ks ks' (Err OutOfMemory) at d cs ss h = subst (λ (z : List Joined). AreIndexed cs ss z) (sym d.2) h
 steps-keep i k j x x' logs logs' ks ks' (Err _) at d cs ss h = absurd d

@@ -39,6 +39,7 @@ use Rattle.ca_laws_parts.specs.Moves.{finish_told, post_told, removal_told}
 use Rattle.ca_laws_parts.proofs.Midway.{set-here}
 use Rattle.ca_laws_parts.proofs.WritesLists.{length-more}
 use Rattle.ca_laws_runs.proofs.OrderGrows.{Longer, grown-here, longer-grown, longer-self, longer-snoc}
+use Rattle.ca_laws_runs.proofs.OnceRuns.{numbered-place}
 use Rattle.ca_world_data.specs.declared.history.Line.{Line as Told}
 use Rattle.ca_world_data.specs.declared.history.LogEntry.{LogEntry}
 use Rattle.ca_world_data.specs.Logs.{lines_in}
@@ -47,7 +48,6 @@ use Rattle.ca_world_data.specs.Seen.{entry_of, line_of}
 use Rattle.ca_world.specs.Counted.{AllLines, Counted, HasEntries, HasLines}
 use Rattle.ca_world.specs.Unstamped.{IsUnstamped}
 use Rattle.ca_world.specs.Whole.{IsReached}
-use Rattle.ca_world.proofs.Meanings.{at-numbered}
 
 -- ---- cores
 
@@ -442,12 +442,12 @@ happens-holds w new (event.Tick moment) all h = (let t = h.1 in subst (λ (v : W
 opening-holds : (s : Setting) → Holds (opening s)
 opening-holds s = (
   λ i x at.
-      let r = at-numbered 0 (client_begun (addresses s.servers) 0) s.clients i x at in
+      let r = numbered-place 0 (client_begun (addresses s.servers) 0) s.clients i x at in
       let empty : ClientSetting → List Line = λ c. [] in
       let life : i < length (map empty s.clients) = At-within (map empty s.clients) i [] (At-map empty s.clients i r.0 r.1) in
       subst (λ (v : ClientSide). HasLines v (map empty s.clients)) (sym r.2) (record { life = omega (arith, life); writes = omega arith }),
   λ i y at.
-      let r = at-numbered 0 (server_begun 0) s.servers i y at in
+      let r = numbered-place 0 (server_begun 0) s.servers i y at in
       let same : i ≡ 0 + i = omega arith in
       subst (λ (v : ServerSide). Keeps v (map log_begun s.servers)) (sym r.2)
       (begun-keeps 0 (0 + i) r.0 (map log_begun s.servers) (subst (λ (k : ℕ). At (map log_begun s.servers) k (log_begun r.0)) same (At-map log_begun s.servers i r.0 r.1))),

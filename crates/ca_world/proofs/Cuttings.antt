@@ -1,31 +1,21 @@
 -- A server's end of a circuit is cut, from what its parts became.
-use Rattle.std.proofs.Common.{◌≡◌, ℕ, zero, suc, ◌≤◌, ◌==◌, ◌&&◌, inl, inr, Bool, true, false, not, List, [], ◌∷◌, Option, Some, None, Result, Ok, Err, length, refl, sym, ap, subst, ◌∙◌, arith}
-use Rattle.std.specs.Prelude.{if◌then◌else◌, is_some, map, option_map, slice_get, slice_set, unwrap_or}
-use Rattle.std.proofs.lemmas.Bool.{and_from, and_parts, eq-eqb, eqb-true}
-use Rattle.ca_arena.specs.declared.handle.Handle.{Handle}
-use Rattle.ca_arena.specs.Arena.{Place}
-use Rattle.ca_ids.specs.Table.{Table, kept_of, under, with_all_freed, with_changed, with_freed}
-use Rattle.ca_model.proofs.Placed.{under-other}
-use Rattle.ca_model.proofs.Tables.{under-at}
-use Rattle.ca_queue.proofs.Circuits.{filter-twice}
-use Rattle.ca_records.specs.declared.puts.Put.{Put}
-use Rattle.ca_records.specs.Puts.{Record, WaitingPut, withdrawn}
+use Rattle.std.proofs.Common.{◌≡◌, ℕ, inl, true, false, not, List, Result, Ok, Err, length, refl, sym, ap, subst, ◌∙◌}
+use Rattle.std.specs.Prelude.{if◌then◌else◌, map, slice_set}
+use Rattle.ca_ids.specs.Table.{under}
 use Rattle.ca_text.specs.declared.refusal.Refusal.{Refusal}
 use Rattle.ca_text.specs.declared.refusal.Refusal.TheVariants.{OutOfMemory}
 use Rattle.ca_text.specs.Place.{At}
-use Rattle.ca_text.proofs.Places.{At-map, At-one, At-or, some_is}
+use Rattle.ca_text.proofs.Places.{At-map, At-one}
 use Rattle.ca_model.specs.Ends as why
 use Rattle.ca_model.specs.History.{Entry, Line}
-use Rattle.ca_model.specs.Server.{Ended, Open, Server, ServerCircuit, ServerEnd}
-use Rattle.ca_model.specs.ServerSteps.{Cuts, HasEnd, Steps, StepsAt, closed, ended, output_of}
-use Rattle.ca_model.specs.ServerSteps as steps
+use Rattle.ca_model.specs.Server.{Server, ServerEnd}
+use Rattle.ca_model.specs.ServerSteps.{HasEnd, ended, output_of}
 use Rattle.ca_model.specs.Events.{CutServer}
 use Rattle.ca_model.specs.Runs.{CanBe, HasServerEnd}
-use Rattle.ca_model.specs.ServerEvents.{ending, ends_at, ends_by, left_by, reported, server_closed, withdrawals, without_puts}
+use Rattle.ca_model.specs.ServerEvents.{ends_at, ends_by, reported, withdrawals, without_puts}
 use Rattle.ca_model.specs.World.{Setting, grown, opening}
 use Rattle.ca_model.specs.World as model
 use Rattle.ca_laws_parts.proofs.BytesRuns.{events-stand, opening-stands}
-use Rattle.ca_laws_parts.proofs.ServerEnds.{ended-own}
 use Rattle.ca_laws_parts.specs.Runs as bytes
 use Rattle.ca_laws_parts.specs.Seats.{HasSeat, Seated}
 use Rattle.ca_world_data.specs.declared.client.ClientSide.{ClientSide}
@@ -35,149 +25,17 @@ use Rattle.ca_world_data.specs.declared.server.ServerSide.{ServerSide}
 use Rattle.ca_world_data.specs.Does.{Does}
 use Rattle.ca_world_data.specs.Ends.{AreEnds, NoEnds, ends_of}
 use Rattle.ca_world.specs.Whole.{IsReached}
-use Rattle.ca_world.specs.Reported.{AllReported, HasReported, IsReportedTable}
+use Rattle.ca_world.specs.Reported.{AllReported, HasReported}
 use Rattle.ca_world_data.specs.Seen.{client_of, joined_of, record_of, server_of}
-use Rattle.ca_world_data.specs.ServerCuts.{CutsServer, IsServing, cut_core, left_in}
+use Rattle.ca_world_data.specs.ServerCuts.{CutsServer, IsServing}
 use Rattle.ca_world_data.specs.Withdrawing.{all_withdrawn}
-use Rattle.ca_world.proofs.Downward.{set-set}
+use Rattle.ca_world.proofs.Endings.{ends-number, ends-this, over-reports}
 use Rattle.ca_world_data.proofs.Indexes.{KeepsEnds, ends-stay}
 use Rattle.ca_world.proofs.Reported.{reported-events, reported-opening}
 use Rattle.ca_world_data.proofs.Withdrawals.{told-all}
 use Rattle.ca_world_data.proofs.Worlds.{joins, none-joined, one-at, same-circuit, set-map, set-same, world_of}
 
 -- ---- a core
-
--- the end is cut, and a step reports what it left
-pub cut-left : (y mid new : Server) (h : Handle) (e : ServerEnd) (did : steps.Stepped) → HasEnd y h e → Cuts y h mid → Steps mid h did new → (left_in did ≡ output_of (under y.circuits h)) × (new ≡ cut_core h y)
-cut-left y mid new h e did has (inr none) does = absurd (none.0 e has)
-cut-left y mid new h e did has (inl (f, there, is)) does =
-    let out : output_of (under y.circuits h) ≡ f.link.output = ap output_of there in
-    let mid_is : mid ≡ ended h why.Cut (output_of (under y.circuits h)) y = is ∙ (λ t. ended h why.Cut (sym out t) y) in
-    let over : under mid.circuits h ≡ Some (Ended why.Cut (output_of (under y.circuits h))) =
-    subst (λ (z : Server). under z.circuits h ≡ Some (Ended why.Cut (output_of (under y.circuits h)))) (sym mid_is) (ended-own h why.Cut (output_of (under y.circuits h)) y f there) in
-    let did_so : StepsAt mid h (Some (Ended why.Cut (output_of (under y.circuits h)))) did new = subst (λ (o : Option ServerCircuit). StepsAt mid h o did new) over does in
-    (ap left_in did_so.0, did_so.1 ∙ ap (closed h) mid_is)
-
--- ---- what a core reports
-
-none-under : (t : Table ServerCircuit) (g : Handle) → IsReportedTable t → left_by (under t g) ≡ None
-none-under t g all = go (under t g) refl
-  where
-    go : (o : Option ServerCircuit) → under t g ≡ o → left_by o ≡ None
-    go None is = refl
-    go (Some v) is = all g.index (record { generation = g.generation; value = Some v }) (under-at t g v is)
-
-kept-all : (o : Option ServerCircuit) → left_by o ≡ None → kept_of (λ (c : ServerCircuit). is_some (left_by (Some c))) o ≡ o
-kept-all None none = refl
-kept-all (Some (Open e)) none = refl
-kept-all (Some (Ended w left)) none = absurd cc
-
--- a table that has reported all keeps all
-freed-none : (t : Table ServerCircuit) → IsReportedTable t → with_all_freed (λ (c : ServerCircuit). is_some (left_by (Some c))) t ≡ t
-freed-none [] all = refl
-freed-none (p ∷ t) all =
-    (λ i. record { generation = p.generation; value = kept-all p.value (all 0 p refl) i } ∷ freed-none t (λ n q at. all (suc n) q at) i)
-
--- the one end that ended is reported
-freed-one : (t : Table ServerCircuit) (h : Handle) (e : ServerEnd) (w : why.Why) (left : List ℕ) → under t h ≡ Some (Open e) → IsReportedTable t
-    → let over : Table ServerCircuit = with_changed (λ (c : ServerCircuit). Ended w left) h t in
-    under over h ≡ Some (Ended w left) → with_freed h over ≡ with_all_freed (λ (c : ServerCircuit). is_some (left_by (Some c))) over
-freed-one t h e w left has all there =
-    let over : Table ServerCircuit = with_changed (λ (c : ServerCircuit). Ended w left) h t in
-    let frees : ServerCircuit → Bool = λ (c : ServerCircuit). is_some (left_by (Some c)) in
-    let gone : Place ServerCircuit = record { generation = h.generation; value = Some (Ended w left) } in
-    let free : Place ServerCircuit = record { generation = h.generation; value = None } in
-    let is : over ≡ slice_set t h.index gone =
-    (λ i. if is_some (has i) then slice_set t h.index (record { generation = h.generation; value = option_map (λ (c : ServerCircuit). Ended w left) (has i) }) else t) in
-    let here : with_freed h over ≡ slice_set over h.index free = (λ i. if is_some (there i) then slice_set over h.index free else over) in
-    let all_there : with_all_freed frees (slice_set t h.index gone) ≡ slice_set (with_all_freed frees t) h.index free =
-    set-map (λ (p : Place ServerCircuit). record p { value = kept_of frees p.value }) t h.index gone in
-    here ∙ ap (λ (z : Table ServerCircuit). slice_set z h.index free) is ∙ set-set t h.index gone free
-    ∙ sym (ap (with_all_freed frees) is ∙ all_there ∙ ap (λ (z : Table ServerCircuit). slice_set z h.index free) (freed-none t all))
-
-withdrawn-twice : (test : Put → Bool) (rs : List Record) → withdrawn test (withdrawn test rs) ≡ withdrawn test rs
-withdrawn-twice test [] = refl
-withdrawn-twice test (r ∷ rs) =
-    (λ i. record r { waiting = filter-twice (λ (p : WaitingPut). not (test p.put)) r.waiting i } ∷ withdrawn-twice test rs i)
-
--- what the step leaves is the core that has reported
-cut-reports : (y : Server) (h : Handle) (e : ServerEnd) → HasEnd y h e → HasReported y → cut_core h y ≡ reported (ended h why.Cut (output_of (under y.circuits h)) y)
-cut-reports y h e has all =
-    let left : List ℕ = output_of (under y.circuits h) in
-    let over : Server = ended h why.Cut left y in
-    let tables = freed-one y.circuits h e why.Cut left has all (ended-own h why.Cut left y e has) in
-    let records = withdrawn-twice (λ (p : Put). Rattle.ca_ids.specs.Table.same_handle p.circuit h) y.records in
-    (λ i. record over { circuits = tables i; records = records i })
-
--- ---- which circuits end
-
--- of all circuits it is this one
-module _ (ks : List model.Joined) (k i : ℕ) (j : model.Joined) (y : Server) (e : ServerEnd) (at : At ks k j) (mine : j.server ≡ i) (on : j.lists.server_open ≡ true) (has : HasEnd y j.at_server e) (all : HasReported y)
-    (one : (n : ℕ) (c : model.Joined) → At ks n c → c.server ≡ i → c.lists.server_open ≡ true → c.at_server ≡ j.at_server → n ≡ k) where
-  abbrev left : List ℕ
-  left = output_of (under y.circuits j.at_server)
-
-  abbrev over : Server
-  over = ended j.at_server why.Cut left y
-
-  ends-own : ends_by i over j ≡ Some left
-  ends-own =
-      let b : (j.server == i && j.lists.server_open) ≡ true = and_from (j.server == i) j.lists.server_open (eq-eqb j.server i mine) on in
-      (λ t. if b t then left_by (under over.circuits j.at_server) else None) ∙ ap left_by (ended-own j.at_server why.Cut left y e has)
-
-  ends-other : (n : ℕ) (c : model.Joined) → At ks n c → (n ≡ k → ⊥) → ends_by i over c ≡ None
-  ends-other n c there other = go (c.server == i && c.lists.server_open) refl
-    where
-      go : (b : Bool) → (c.server == i && c.lists.server_open) ≡ b → (if b then left_by (under over.circuits c.at_server) else None) ≡ None
-      go false is = refl
-      go true is =
-          let both = and_parts (c.server == i) c.lists.server_open is in
-          let differs : c.at_server ≡ j.at_server → ⊥ = λ same. other (one n c there (eqb-true c.server i both.0) both.1 same) in
-          ap left_by (under-other (λ (z : ServerCircuit). Ended why.Cut left) y.circuits j.at_server c.at_server differs) ∙ none-under y.circuits c.at_server all
-
-  -- its circuit alone has ended
-  pub ends-this : map (ending (ends_by i over)) ks ≡ slice_set ks k (server_closed left j)
-  ends-this =
-      map-one (ending (ends_by i over)) ks k j at (λ n c there other. ap (λ (o : Option (List ℕ)). unwrap_or (option_map (λ (l : List ℕ). server_closed l c) o) c) (ends-other n c there other))
-      ∙ ap (λ (o : Option (List ℕ)). slice_set ks k (unwrap_or (option_map (λ (l : List ℕ). server_closed l j) o) j)) ends-own
-    where
-      map-one : (f : model.Joined → model.Joined) (ks : List model.Joined) (k : ℕ) (j : model.Joined) → At ks k j → ((n : ℕ) (c : model.Joined) → At ks n c → (n ≡ k → ⊥) → f c ≡ c) → map f ks ≡ slice_set ks k (f j)
-      map-one f [] k j at same = absurd cc
-      map-one f (z ∷ ks) zero j at same = (λ t. f (some_is z j at t) ∷ rest ks (λ n c there. same (suc n) c there (λ e. absurd cc)) t)
-        where
-          rest : (ks : List model.Joined) → ((n : ℕ) (c : model.Joined) → At ks n c → f c ≡ c) → map f ks ≡ ks
-          rest [] same = refl
-          rest (c ∷ ks) same = (λ t. same 0 c refl t ∷ rest ks (λ n d there. same (suc n) d there) t)
-      map-one f (z ∷ ks) (suc k) j at same =
-          (λ t. same 0 z refl (λ e. absurd cc) t ∷ map-one f ks k j at (λ n c there other. same (suc n) c there (λ e. other (pred-is n k e))) t)
-        where
-          pred-is : (n k : ℕ) → suc n ≡ suc k → n ≡ k
-          pred-is n k e = omega (arith, e)
-
-  -- as a test of numbers
-  pub ends-number : ends_at (ends_by i over) ks ≡ (λ (n : ℕ). n == k)
-  ends-number = (λ t n. each n t)
-    where
-      each : (n : ℕ) → ends_at (ends_by i over) ks n ≡ (n == k)
-      each n = go (n == k) refl
-        where
-          go : (b : Bool) → (n == k) ≡ b → ends_at (ends_by i over) ks n ≡ b
-          go true is =
-              let here : At ks n j = subst (λ (z : ℕ). At ks z j) (sym (eqb-true n k is)) at in
-              ap (λ (o : Option model.Joined). unwrap_or (option_map (λ (c : model.Joined). is_some (ends_by i over c)) o) false) here ∙ ap is_some ends-own
-          go false is =
-              let other : n ≡ k → ⊥ = λ same. (let yes_it : (n == k) ≡ true = eq-eqb n k same in cc) in
-              elim (At-or ks n) [
-                | inl there ↦
-                    ap (λ (o : Option model.Joined). unwrap_or (option_map (λ (c : model.Joined). is_some (ends_by i over c)) o) false) there.1
-                    ∙ ap is_some (ends-other n there.0 there.1 other)
-                | inr past ↦ ap (λ (o : Option model.Joined). unwrap_or (option_map (λ (c : model.Joined). is_some (ends_by i over c)) o) false) (nothing ks n past)
-              ]
-            where
-              nothing : (ks : List model.Joined) (n : ℕ) → length ks ≤ n → slice_get ks n ≡ None
-              nothing [] n le = refl
-              nothing (z ∷ ks) zero le = absurd (omega (arith, le))
-              nothing (z ∷ ks) (suc n) le = nothing ks n (omega (arith, le))
 
 -- ---- what holds in every run
 
@@ -225,9 +83,9 @@ module _ (cs : List ClientSide) (ss : List ServerSide) (ks : List Joined) (cl : 
         let one : (n : ℕ) (c : model.Joined) → At (map joined_of ks) n c → c.server ≡ j.server → c.lists.server_open ≡ true → c.at_server ≡ j.at_server → n ≡ k = λ n c there mine opened same. seated.one n k c (joined_of j) there at_k mine opened on same in
         let left : List ℕ = output_of (under y.core.circuits j.at_server) in
         let core : Server = ended j.at_server why.Cut left y.core in
-        let ends = ends-this (map joined_of ks) k j.server (joined_of j) y.core e at_k refl on has all one in
-        let number = ends-number (map joined_of ks) k j.server (joined_of j) y.core e at_k refl on has all one in
-        let by_end = cut-reports y.core j.at_server e has all in
+        let ends = ends-this (map joined_of ks) k j.server (joined_of j) y.core e why.Cut left at_k refl on has all one in
+        let number = ends-number (map joined_of ks) k j.server (joined_of j) y.core e why.Cut left at_k refl on has all one in
+        let by_end = over-reports y.core j.at_server e why.Cut left has all in
         let out : output_of (under y.core.circuits j.at_server) ≡ e.link.output = ap output_of has in
         let core_is : core ≡ ended j.at_server why.Cut e.link.output y.core = (λ t. ended j.at_server why.Cut (out t) y.core) in
         let rs : List model.RecordSide = map record_of y.records.items in

@@ -20,7 +20,7 @@ use Rattle.ca_model.specs.ServerSteps.{output_of}
 use Rattle.ca_model.specs.ClientEvents.{DownTaken, waiting_down}
 use Rattle.ca_model.specs.Events.{Down}
 use Rattle.ca_model.specs.Runs.{CanBe, HasClientEnd}
-use Rattle.ca_model.specs.World.{Names, grown, with_circuit, with_server}
+use Rattle.ca_model.specs.World.{Names, with_circuit, with_server}
 use Rattle.ca_model.specs.World as model
 use Rattle.ca_laws_parts.specs.Clients.{ClientsStand}
 use Rattle.ca_world_data.specs.declared.client.ClientSide.{ClientSide}
@@ -37,13 +37,10 @@ use Rattle.ca_world.proofs.Cancellings.{none-up}
 use Rattle.ca_world_data.proofs.Indexes.{KeepsEnds, ends-stay}
 use Rattle.ca_world_data.proofs.Sendings.{sent-one}
 use Rattle.ca_world_data.proofs.Worlds.{if-false, if-true, joins, none-joined, one-at, same-circuit, set-map, set-same, world_of}
+use Rattle.ca_world_data.proofs.Silences.{grown-nil}
+use Rattle.ca_queue.proofs.Circuits.{set-twice}
 
 -- ---- lists
-
-pub set-set : {A : Type 0} (xs : List A) (i : ℕ) (x y : A) → slice_set (slice_set xs i x) i y ≡ slice_set xs i y
-set-set [] i x y = refl
-set-set (z ∷ xs) zero x y = refl
-set-set (z ∷ xs) (suc i) x y = ap (λ (t : List _). z ∷ t) (set-set xs i x y)
 
 pub at-set : {A : Type 0} (xs : List A) (i : ℕ) (x y : A) → At xs i x → At (slice_set xs i y) i y
 at-set [] i x y at = absurd cc
@@ -58,12 +55,6 @@ numbered-less numbers ks i k j new at client handle opens h l a there mine on = 
       subst (λ (z : ℕ × Handle). At numbers z.1.index z.0) (λ t. (sym here.0 t, (sym handle ∙ sym (ap (λ (z : model.Joined). z.at_client) here.1)) t))
       (h k j at (sym client ∙ sym (ap (λ (z : model.Joined). z.client) here.1) ∙ mine) (sym opens ∙ sym (ap (λ (z : model.Joined). z.lists.client_open) here.1) ∙ on))
 ]
-
--- a log with nothing more
-pub grown-none : {A : Type 0} (life : ℕ) (logs : List (List A)) → grown life [] logs ≡ logs
-grown-none life [] = refl
-grown-none zero (l ∷ logs) = ap (λ (t : List _). t ∷ logs) (append-nil l)
-grown-none (suc life) (l ∷ logs) = ap (λ (t : List (List _)). l ∷ t) (grown-none life logs)
 
 -- ---- what a read sends
 
@@ -146,7 +137,7 @@ module _ (cs : List ClientSide) (ss : List ServerSide) (ks : List Joined) (cl : 
             x'.core,
             taken,
             subst (λ (t : List ℕ). ClientGives x.core j.at_client (take n t) (nat_lt n (length t)) (Ok tt) g.sent x'.core) (sym waits) g.gives,
-            (λ i. record { clients = side i; servers = other i; circuits = circuits i; client_logs = sym (grown-none x.life cl) i; server_logs = sl; moment = m }),
+            (λ i. record { clients = side i; servers = other i; circuits = circuits i; client_logs = sym (grown-nil x.life cl) i; server_logs = sl; moment = m }),
           ),
         )
     down-handed x' y' j' (Err OutOfMemory) on d =
@@ -177,7 +168,7 @@ module _ (cs : List ClientSide) (ss : List ServerSide) (ks : List Joined) (cl : 
         set-map client_of cs j.client x' ∙ ap (λ (z : ClientSide). slice_set (map client_of cs) j.client (client_of z)) g.side in
         let said : model.Joined = with_said (flow_said (flow_at more x.core j.at_client)) less in
         let circuits : map joined_of (slice_set ks k j') ≡ map (sent_up j.client (client_of x).names g.sent) now =
-        set-map joined_of ks k j' ∙ ap (slice_set (map joined_of ks) k) d.2 ∙ sym (set-set (map joined_of ks) k less said)
+        set-map joined_of ks k j' ∙ ap (slice_set (map joined_of ks) k) d.2 ∙ sym (set-twice (map joined_of ks) k less said)
         ∙ flow-goes j.client (client_of x).names x.core x'.core now k less numbers (take n j.left_down) more g.sent (at-set (map joined_of ks) k (joined_of j) less (At-map joined_of ks k j at)) refl receives
         (numbered-less numbers (map joined_of ks) j.client k (joined_of j) less (At-map joined_of ks k j at) refl refl refl numbered) g.gives in (
           (there, subst (λ (t : List ℕ). n ≤ length t) (sym waits) d.0),
@@ -187,7 +178,7 @@ module _ (cs : List ClientSide) (ss : List ServerSide) (ks : List Joined) (cl : 
             x'.core,
             taken,
             subst (λ (t : List ℕ). ClientGives x.core j.at_client (take n t) (nat_lt n (length t)) (Ok tt) g.sent x'.core) (sym waits) g.gives,
-            (λ i. record { clients = side i; servers = map server_of ss; circuits = circuits i; client_logs = sym (grown-none x.life cl) i; server_logs = sl; moment = m }),
+            (λ i. record { clients = side i; servers = map server_of ss; circuits = circuits i; client_logs = sym (grown-nil x.life cl) i; server_logs = sl; moment = m }),
           ),
         )
     down-left x' j' (Err OutOfMemory) off d =

@@ -34,10 +34,6 @@ stopped-promised w (s, es, stopped, ok, are, runs) = (let p = promised s es stop
 pub stopped-streams : (w : World) → HasStopped w → AllStream w
 stopped-streams w (s, es, stopped, ok, are, runs) = (runs-stand s es stopped w ok runs).streams
 
--- a run may end in each world
-pub came-stopped : (w : World) → CameAbout w → HasStopped w
-came-stopped w (s, es, ok, are, folds) = (s, es, None, ok, are, (w, folds, refl))
-
 -- ---- one event more
 
 take-next : {A : Type 0} (xs : List A) (i : ℕ) (x : A) → At xs i x → take (i + 1) xs ≡ take i xs ++ x ∷ []

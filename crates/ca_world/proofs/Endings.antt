@@ -8,7 +8,7 @@ use Rattle.ca_arena.specs.Arena.{Place}
 use Rattle.ca_ids.specs.Table.{Table, kept_of, under, with_all_freed, with_changed, with_freed}
 use Rattle.ca_model.proofs.Placed.{under-other}
 use Rattle.ca_model.proofs.Tables.{under-at}
-use Rattle.ca_queue.proofs.Circuits.{filter-twice}
+use Rattle.ca_queue.proofs.Circuits.{filter-twice, set-twice}
 use Rattle.ca_records.specs.declared.puts.Put.{Put}
 use Rattle.ca_records.specs.Puts.{Record, WaitingPut, withdrawn}
 use Rattle.ca_text.specs.Place.{At}
@@ -20,7 +20,6 @@ use Rattle.ca_model.specs.ServerEvents.{ending, ends_at, ends_by, left_by, repor
 use Rattle.ca_model.specs.World as model
 use Rattle.ca_laws_parts.proofs.ServerEnds.{ended-own}
 use Rattle.ca_world.specs.Reported.{HasReported, IsReportedTable}
-use Rattle.ca_world.proofs.Downward.{set-set}
 use Rattle.ca_world_data.proofs.Worlds.{set-map}
 
 -- ---- what a core reports
@@ -57,7 +56,7 @@ freed-one t h e w left has all there =
     let here : with_freed h over ≡ slice_set over h.index free = (λ i. if is_some (there i) then slice_set over h.index free else over) in
     let all_there : with_all_freed frees (slice_set t h.index gone) ≡ slice_set (with_all_freed frees t) h.index free =
     set-map (λ (p : Place ServerCircuit). record p { value = kept_of frees p.value }) t h.index gone in
-    here ∙ ap (λ (z : Table ServerCircuit). slice_set z h.index free) is ∙ set-set t h.index gone free
+    here ∙ ap (λ (z : Table ServerCircuit). slice_set z h.index free) is ∙ set-twice t h.index gone free
     ∙ sym (ap (with_all_freed frees) is ∙ all_there ∙ ap (λ (z : Table ServerCircuit). slice_set z h.index free) (freed-none t all))
 
 withdrawn-twice : (test : Put → Bool) (rs : List Record) → withdrawn test (withdrawn test rs) ≡ withdrawn test rs

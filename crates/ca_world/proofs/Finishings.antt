@@ -4,7 +4,7 @@ use Rattle.std.specs.Prelude.{IsErrAnd, OnOk, Vec, if◌then◌else◌, is_some,
 use Rattle.std.specs.declared.alloc.Global.{Global}
 use Rattle.std.specs.List.{fold}
 use Rattle.std.specs.Str.{bytes_eq}
-use Rattle.std.proofs.lemmas.List.{append-nil, append_assoc, length-append, length-map}
+use Rattle.std.proofs.lemmas.List.{append-nil, length-append, length-map}
 use Rattle.std.proofs.lemmas.Slice.Eq.{bytes_eq-Decides}
 use Rattle.ca_arena.specs.declared.handle.Handle.{Handle}
 use Rattle.ca_dbr.specs.Elements.{Elements}
@@ -29,7 +29,7 @@ use Rattle.ca_model.specs.ServerCalls.{Finishes, Replies, after_next, finish_rep
 use Rattle.ca_model.specs.ServerSteps.{reached, stored_now, write_mask}
 use Rattle.ca_model.specs.Speech.{In, Stored}
 use Rattle.ca_model.specs.Events as event
-use Rattle.ca_model.specs.Runs.{CanBe, IsServer}
+use Rattle.ca_model.specs.Runs.{IsServer}
 use Rattle.ca_model.specs.ServerEvents.{about, ending, ends_by, finish_entry, first_of, keys_concerned, next_busy, next_entries, next_numbers, numbers_posted, replied_at, reported, server_after, with_number, with_record, withdrawals, without_puts}
 use Rattle.ca_model.specs.World.{PutPlace, grown}
 use Rattle.ca_model.specs.World as model
@@ -51,6 +51,7 @@ use Rattle.ca_world.specs.Whole.{IsReached}
 use Rattle.ca_world.proofs.Additions.{others-apart}
 use Rattle.ca_world.proofs.Postings.{each-under, ending-keeps, posted-keeps, served-posted}
 use Rattle.ca_world.proofs.Counted.{run-unstamped}
+use Rattle.ca_world.proofs.Downward.{at-set}
 use Rattle.ca_world_data.specs.declared.client.ClientSide.{ClientSide}
 use Rattle.ca_world_data.specs.declared.history.LogEntry.{LogEntry}
 use Rattle.ca_world_data.specs.declared.joined.Joined.{Joined}
@@ -65,8 +66,9 @@ use Rattle.ca_world_data.specs.Opening.{entries_in}
 use Rattle.ca_world_data.specs.Reporting.{AreServed, Reports, gone_at, waits}
 use Rattle.ca_world_data.specs.Seen.{client_of, entry_of, joined_of, place_of, record_of, server_of, told_of}
 use Rattle.ca_world_data.specs.ServerCuts.{HasRoomFor}
-use Rattle.ca_world_data.proofs.Indexes.{KeepsEnds, ends-stay, indexed-circuit, indexed-map, indexed-same, numbers-set}
-use Rattle.ca_world_data.proofs.Worlds.{found as looked, set-map, set-same, world_of}
+use Rattle.ca_world_data.proofs.Indexes.{KeepsEnds, ends-stay, indexed-circuit, indexed-map, indexed-server}
+use Rattle.ca_world_data.proofs.Worlds.{found as looked, server-stays, set-map, world_of}
+use Rattle.ca_world_data.proofs.Silences.{grown-twice}
 
 -- ---- the value of a put that waits
 
@@ -101,12 +103,6 @@ next-log logs life ps p log any has first is =
     (at, (e, value, subst (λ (l : List history.Entry). In l e) same in_log, subst (λ (z : PutPlace). TellsWait e z value) one tells))
 
 -- ---- logs
-
--- more entries after others
-pub grown-twice : {A : Type 0} (life : ℕ) (some more : List A) (logs : List (List A)) → grown life more (grown life some logs) ≡ grown life (some ++ more) logs
-grown-twice life some more [] = refl
-grown-twice zero some more (l ∷ ls) = ap (λ (z : List _). z ∷ ls) (append_assoc l some more)
-grown-twice (suc n) some more (l ∷ ls) = ap (λ (z : List (List _)). l ∷ z) (grown-twice n some more ls)
 
 -- ---- the bytes of a circuit
 
@@ -186,36 +182,6 @@ none-behind waited bytes ms behind few = elim behind.few [
       absurd (omega (arith, all, size, long, begun, few))
 ]
 
-drop-begun : (xs ys : List ℕ) → drop (length xs) (xs ++ ys) ≡ ys
-drop-begun [] ys = refl
-drop-begun (x ∷ xs) ys = drop-begun xs ys
-
--- else one is
-pub record OneBehind (waited : ℕ) (bytes : List ℕ) (ms : List Fields) : Type 0 where
-  pub m : Fields
-  pub is : ms ≡ m ∷ []
-  pub good : IsMessage m
-  pub header_only : m.payload ≡ []
-  pub begins : drop waited bytes ≡ spelling m ++ []
-
-pub one-behind : (waited : ℕ) (bytes : List ℕ) (ms : List Fields) → AreBehind waited bytes ms → waited < length bytes → OneBehind waited bytes ms
-one-behind waited bytes ms behind more = elim behind.few [
-  | inl none ↦
-      let are : bytes ≡ behind.begun ++ [] = behind.are ∙ ap (λ (z : List Fields). behind.begun ++ spelled z) none in
-      let all : length bytes ≡ length behind.begun = ap length (are ∙ append-nil behind.begun) in
-      let begun : length behind.begun ≡ waited = behind.long in
-      absurd (omega (arith, all, begun, more))
-  | inr one ↦
-      let are : bytes ≡ behind.begun ++ spelled (one.0 ∷ []) = behind.are ∙ ap (λ (z : List Fields). behind.begun ++ spelled z) one.1 in
-      record {
-        m = one.0;
-        is = one.1;
-        good = one.2;
-        header_only = one.3;
-        begins = (λ t. drop (sym behind.long t) (are t)) ∙ drop-begun behind.begun (spelled (one.0 ∷ []));
-      }
-]
-
 -- ---- circuits
 
 -- a circuit, whose messages down are others, has the same numbers
@@ -256,18 +222,6 @@ refuses y name none = go (record_named y.records name) refl none
     go : (o : Option Record) → record_named y.records name ≡ o → value_busy o ≡ None → (e : Refusal) × Finishes y name [] (Err e) y
     go None named none = (UnknownRecord, (named, refl, refl))
     go (Some c) named none = on c named c.busy refl none
-
--- a record that is busy is not
-pub not-refused : (y core : Server) (name : List ℕ) (sent : List (Handle × Fields)) (e : Refusal) (b : Put) → Finishes y name sent (Err e) core → IsBusy y name b → ⊥
-not-refused y core name sent UnknownRecord b d is = absurd (none-some is.c (sym d.0 ∙ is.named))
-  where
-    none-some : (c : Record) → (let o : Option Record = None in o ≡ Some c) → ⊥
-    none-some c e = cc
-not-refused y core name sent NotBusy b d is = (let same : d.0.0 ≡ is.c = some_is d.0.0 is.c (sym d.0.1 ∙ is.named) in absurd (none-some b (sym d.0.2 ∙ ap (λ (z : Record). z.busy) same ∙ is.busy)))
-  where
-    none-some : (c : Put) → (let o : Option Put = None in o ≡ Some c) → ⊥
-    none-some c e = cc
-not-refused y core name sent e b d is = absurd d
 
 -- ---- in every run
 
@@ -354,10 +308,6 @@ numbered-map : (waits : Bool) (i : ℕ) (core : Server) (name : List ℕ) (ks : 
 numbered-map true i core name ks = refl
 numbered-map false i core name ks = sym (map-same (λ j. j) ks (λ j. refl))
 
-keeps-numbers : (waits : Bool) (i : ℕ) (core : Server) (name : List ℕ) (j : model.Joined) → KeepsEnds j (if_waits waits i core name j)
-keeps-numbers true i core name j = posted-keeps i core name write_mask j
-keeps-numbers false i core name j = ends-stay j j refl
-
 -- the circuit with other messages down has the same numbers
 down-posted : (d : List history.Told) (i : ℕ) (core : Server) (name : List ℕ) (j : model.Joined) → numbers_posted i core name write_mask (with_down d j) ≡ with_down d (numbers_posted i core name write_mask j)
 down-posted d i core name j = go (j.server == i && j.lists.server_open)
@@ -415,16 +365,12 @@ set-aside waits i core name p sent ks header_only after last j c told at bare_is
     let is : after ≡ slice_set (map f ks) k (with_down [] (f j)) =
     after_is ∙ numbered-map waits i core name header_only ∙ ap (map f) bare_is ∙ set-map f ks k (with_down [] j) ∙ ap (slice_set (map f ks) k) (down-numbers waits [] i core name j) in
     let mapped : At (map f ks) k (f j) = At-map f ks k j at in
-    let c_is : c ≡ with_down [] (f j) = At-one after k c (with_down [] (f j)) there (subst (λ (z : List model.Joined). At z k (with_down [] (f j))) (sym is) (set-there (map f ks) k (f j) (with_down [] (f j)) mapped)) in
+    let c_is : c ≡ with_down [] (f j) = At-one after k c (with_down [] (f j)) there (subst (λ (z : List model.Joined). At z k (with_down [] (f j))) (sym is) (at-set (map f ks) k (f j) (with_down [] (f j)) mapped)) in
     last_is ∙ (λ t. slice_set (is t) k (with_down told (c_is t))) ∙ set-twice (map f ks) k (with_down [] (f j)) (with_down told (f j))
     ∙ ap (λ (d : List history.Told). slice_set (map f ks) k (with_down d (f j))) (told_is ∙ ap (λ (d : List history.Told). d ++ reply) (sym (down-kept waits i core name j)))
     ∙ sym (replied-there p sent (map f ks) (f j) mapped)
     ∙ ap (replied_in p sent) (sym (numbered-map waits i core name ks))
   where
-    set-there : {A : Type 0} (xs : List A) (n : ℕ) (x y : A) → At xs n x → At (slice_set xs n y) n y
-    set-there [] n x y at = absurd cc
-    set-there (z ∷ xs) zero x y at = refl
-    set-there (z ∷ xs) (suc n) x y at = set-there xs n x y at
 
 -- ---- circuits of the world
 
@@ -697,11 +643,6 @@ module _ (cs : List ClientSide) (ss : List ServerSide) (ks : List Joined) (cl : 
   abbrev there : IsServer (world_of cs ss ks cl sl m) i
   there = record { y = server_of y; at = At-map server_of ss i y at }
 
-  stay : (y' : ServerSide) (ks' : List Joined) (sl' : List (List history.Entry)) → y' ≡ y → map joined_of ks' ≡ map joined_of ks → sl' ≡ sl → world_of cs (slice_set ss i y') ks' cl sl' m ≡ world_of cs ss ks cl sl m
-  stay y' ks' sl' is_y is_k is_l =
-      (λ t. record { clients = map client_of cs; servers = map server_of (slice_set ss i (is_y t)); circuits = is_k t; client_logs = cl; server_logs = is_l t; moment = m })
-      ∙ (λ t. world_of cs (set-same ss i y at t) ks cl sl m)
-
   -- the world once this server was the one that called, on these circuits
   abbrev over : model.ServerSide → List model.Joined → List (List history.Entry) → model.World
   over z js logs =
@@ -763,19 +704,15 @@ module _ (cs : List ClientSide) (ss : List ServerSide) (ks : List Joined) (cl : 
       leaves = ends-leave y' ks' sl' d;
     }),
   )
-  finish-does y' ks' sl' (Ok u) (inr (e, refuses, is_y, is_k, is_l)) = (there, inr (e, refuses, stay y' ks' sl' is_y is_k is_l))
-  finish-does y' ks' sl' (Err OutOfMemory) ((b, busy), is_y, is_k, is_l) = ((there, (busy.c, busy.named, put-busy b busy.c.busy busy.busy)), stay y' ks' sl' is_y is_k is_l)
+  finish-does y' ks' sl' (Ok u) (inr (e, refuses, is_y, is_k, is_l)) = (there, inr (e, refuses, server-stays cs ss ks ks' cl sl sl' m i y y' at (ap server_of is_y) is_k is_l))
+  finish-does y' ks' sl' (Err OutOfMemory) ((b, busy), is_y, is_k, is_l) = ((there, (busy.c, busy.named, put-busy b busy.c.busy busy.busy)), server-stays cs ss ks ks' cl sl sl' m i y y' at (ap server_of is_y) is_k is_l)
   finish-does y' ks' sl' (Err _) d = absurd d
-
-  -- circuits are found as before
-  indexed-still : (numbers : List (List ℕ)) (y' : ServerSide) (ks' : List Joined) → y' ≡ y → map joined_of ks' ≡ map joined_of ks → AreIndexed numbers (server_numbers ss) (map joined_of ks) → AreIndexed numbers (server_numbers (slice_set ss i y')) (map joined_of ks')
-  indexed-still numbers y' ks' is_y is_k h =
-      indexed-same numbers numbers (server_numbers ss) (server_numbers (slice_set ss i y')) (map joined_of ks) (map joined_of ks') refl (numbers-set (λ (z : ServerSide). z.circuits.items) ss i y y' at (ap (λ (z : ServerSide). z.circuits.items) is_y)) is_k h
 
   next-keeps : (ws : List WaitingPut) (j : model.Joined) → KeepsEnds j (next_numbers i y.core name ws j)
   next-keeps [] j = ends-stay j j refl
   next-keeps (w ∷ ws) j = posted-keeps i y.core name write_mask j
 
+  -- circuits are found as before
   pub finish-indexed : (numbers : List (List ℕ)) (y' : ServerSide) (ks' : List Joined) (sl' : List (List history.Entry)) (r : Result (Unit {0}) Refusal) → FinishesAt i name y (map joined_of ks) sl r y' (map joined_of ks') sl'
       → AreIndexed numbers (server_numbers ss) (map joined_of ks) → AreIndexed numbers (server_numbers (slice_set ss i y')) (map joined_of ks')
   finish-indexed numbers y' ks' sl' (Ok u) (inl d) h =
@@ -783,17 +720,10 @@ module _ (cs : List ClientSide) (ss : List ServerSide) (ks : List Joined) (cl : 
       let nexts : List model.Joined = map (next_numbers i y.core name d.cr.waiting) js in
       let told : AreIndexed numbers (server_numbers ss) nexts = indexed-map numbers (server_numbers ss) js h (next_numbers i y.core name d.cr.waiting) (next-keeps d.cr.waiting) in
       let said : AreIndexed numbers (server_numbers ss) (replied_in d.p d.sent nexts) = indexed-replied d.p d.sent numbers (server_numbers ss) nexts told in
-      indexed-same numbers numbers (server_numbers ss) (server_numbers (slice_set ss i y')) _ (map joined_of ks') refl
-      (numbers-set (λ (z : ServerSide). z.circuits.items) ss i y y' at (d.reports.numbers ∙ d.numbers))
-      d.reports.circuits
+      indexed-server numbers ss i y y' _ (map joined_of ks') at (d.reports.numbers ∙ d.numbers) d.reports.circuits
       (indexed-map numbers (server_numbers ss) (replied_in d.p d.sent nexts) said (ending (ends_by i d.mid.core)) (ending-keeps (ends_by i d.mid.core)))
-  finish-indexed numbers y' ks' sl' (Ok u) (inr (e, refuses, is_y, is_k, is_l)) h = indexed-still numbers y' ks' is_y is_k h
-  finish-indexed numbers y' ks' sl' (Err OutOfMemory) (busy, is_y, is_k, is_l) h = indexed-still numbers y' ks' is_y is_k h
+  finish-indexed numbers y' ks' sl' (Ok u) (inr (e, refuses, is_y, is_k, is_l)) h =
+      indexed-server numbers ss i y y' (map joined_of ks) (map joined_of ks') at (ap (λ (z : ServerSide). z.circuits.items) is_y) is_k h
+  finish-indexed numbers y' ks' sl' (Err OutOfMemory) (busy, is_y, is_k, is_l) h =
+      indexed-server numbers ss i y y' (map joined_of ks) (map joined_of ks') at (ap (λ (z : ServerSide). z.circuits.items) is_y) is_k h
   finish-indexed numbers y' ks' sl' (Err _) d h = absurd d
-
--- no server
-pub finish-none : (cs : List ClientSide) (ss : List ServerSide) (ks : List Joined) (cl : List (List history.Line)) (sl : List (List history.Entry)) (m i : ℕ) (name : List ℕ) → length ss ≤ i → CanBe (world_of cs ss ks cl sl m) (event.Finish i name) → ⊥
-finish-none cs ss ks cl sl m i name over can =
-    let d = At-mapped server_of ss i can.y can.at in
-    let within = At-within ss i d.0 d.1 in
-    absurd (omega (arith, within, over))

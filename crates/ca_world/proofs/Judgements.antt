@@ -1,9 +1,9 @@
 -- What a server refuses of its records whatever memory there is, and what it takes.
-use Rattle.std.proofs.Common.{◌≡◌, ◌≢◌, ℕ, ◌<◌, ◌≤◌, ◌⊎◌, inl, inr, Bool, true, false, List, Option, Some, None, Err, refl, sym, subst, ◌∙◌}
-use Rattle.std.specs.Prelude.{is_some}
+use Rattle.std.proofs.Common.{◌≡◌, ◌≢◌, ℕ, ◌<◌, ◌≤◌, ◌⊎◌, inl, inr, Bool, true, false, List, Option, Some, None, Result, Ok, Err, arith, refl, sym, subst}
+use Rattle.std.specs.Prelude.{IsErrAnd, is_some}
 use Rattle.ca_arena.specs.declared.handle.Handle.{Handle}
 use Rattle.ca_dbr.specs.Elements.{Elements, base_of, count_of}
-use Rattle.ca_records.specs.Calls.{AddFault, PostFault, PostFits}
+use Rattle.ca_records.specs.Calls.{AddFault, MayAdd, PostFault, PostFits}
 use Rattle.ca_records.specs.Puts.{Record, record_named}
 use Rattle.ca_records.specs.Record.{HoldsValue, RecordState, unset}
 use Rattle.ca_server_core.specs.Asking.{state_in}
@@ -11,21 +11,17 @@ use Rattle.ca_text.specs.declared.refusal.Refusal.{Refusal}
 use Rattle.ca_text.specs.declared.refusal.Refusal.TheVariants.{BadCount, BadType, NameLength, OutOfMemory, RecordExists, UnknownRecord}
 use Rattle.ca_text.specs.Limits.{record_name_limit}
 use Rattle.ca_text.specs.Name.{IsName}
-use Rattle.ca_text.specs.Place.{At}
-use Rattle.ca_text.proofs.Places.{At-map}
-use Rattle.ca_model.specs.Events.{Add, Post, Remove}
-use Rattle.ca_model.specs.History.{Entry, Line}
-use Rattle.ca_model.specs.Runs.{Happens, IsServer}
+use Rattle.ca_model.specs.History.{Entry}
 use Rattle.ca_model.specs.Server.{Server}
 use Rattle.ca_model.specs.ServerCalls.{AddsRecord}
+use Rattle.ca_model.specs.Speech.{Stored}
 use Rattle.ca_model.specs.World as model
-use Rattle.ca_world_data.specs.declared.client.ClientSide.{ClientSide}
-use Rattle.ca_world_data.specs.declared.joined.Joined.{Joined}
 use Rattle.ca_world_data.specs.declared.server.ServerSide.{ServerSide}
-use Rattle.ca_world_data.specs.Does.{MayLack}
-use Rattle.ca_world_data.specs.Seen.{server_of}
-use Rattle.ca_world_data.proofs.Worlds.{world_of}
+use Rattle.ca_world_data.specs.Posting.{PostsAt}
+use Rattle.ca_world_servers.specs.Removing.{RemovesAt}
+use Rattle.ca_world.specs.Adding.{AddsAt}
 use Rattle.ca_world.specs.Judging.{JudgesAdd, JudgesPost}
+use Rattle.ca_world.specs.Wide.{IsCount}
 
 -- ---- records by their states
 
@@ -87,39 +83,43 @@ add-refused y s RecordExists fault = ((λ is. absurd cc), (fault, refl))
 add-refused y s BadCount fault = ((λ is. absurd cc), (fault, refl))
 add-refused y s f fault = absurd fault
 
--- ---- in a world
+-- ---- at a server: what it refuses changes nothing, and only what it takes lacks memory
 
-module _ (cs : List ClientSide) (ss : List ServerSide) (ks : List Joined) (cl : List (List Line)) (sl : List (List Entry)) (m : ℕ) (i : ℕ) (y : ServerSide) (at : At ss i y) where
-  abbrev w : model.World
-  w = world_of cs ss ks cl sl m
+pub remove-refused : (i : ℕ) (name : List ℕ) (y : ServerSide) (ks : List model.Joined) (logs : List (List Entry)) → is_some (record_named y.core.records name) ≡ false → RemovesAt i name y ks logs (Ok tt) y ks logs
+remove-refused i name y ks logs none = ((λ (h : Handle). false), (λ (h : Handle). 0), y.core, inr ((no-one (record_named y.core.records name) none, refl), refl, refl, refl))
 
-  abbrev here : IsServer w i
-  here = record { y = server_of y; at = At-map server_of ss i y at }
+pub remove-lacks : (i : ℕ) (name : List ℕ) (y y' : ServerSide) (ks ks' : List model.Joined) (logs logs' : List (List Entry)) (r : Result (Unit {0}) Refusal) → IsErrAnd r (λ e. e ≡ OutOfMemory) → is_some (record_named y.core.records name) ≡ true → y' ≡ y → ks' ≡ ks → logs' ≡ logs → RemovesAt i name y ks logs r y' ks' logs'
+remove-lacks i name y y' ks ks' logs logs' (Ok u) err held is_y is_k is_l = absurd err
+remove-lacks i name y y' ks ks' logs logs' (Err e) err held is_y is_k is_l =
+    subst (λ (z : Refusal). RemovesAt i name y ks logs (Err z) y' ks' logs') (sym err) (held, is_y, is_k, is_l)
 
-  pub remove-taken : (name : List ℕ) (b : Bool) → b ≡ is_some (record_named y.core.records name) → b ≡ true → MayLack w (Remove i name)
-  remove-taken name b is held = (here, sym is ∙ held)
+pub post-taken : (rs : List Record) (name : List ℕ) (e : Elements) (b : Bool) → JudgesPost rs name e b → b ≡ true → PostFits rs name e
+post-taken rs name e true fits held = fits
+post-taken rs name e false fault held = absurd cc
 
-  pub remove-refused : (name : List ℕ) (b : Bool) → b ≡ is_some (record_named y.core.records name) → b ≡ false → Happens w (Remove i name) w
-  remove-refused name b is held =
-      (here, ((λ (h : Handle). false), (λ (h : Handle). 0), y.core, inr ((no-one (record_named y.core.records name) (sym is ∙ held), refl), refl)))
+pub post-refused : (i : ℕ) (name : List ℕ) (v : Stored) (mask : ℕ) (y : ServerSide) (ks : List model.Joined) (logs : List (List Entry)) (b : Bool) → JudgesPost y.core.records name v.value b → b ≡ false → PostsAt i name v mask y ks logs (Ok tt) y ks logs
+post-refused i name v mask y ks logs true fits held = absurd cc
+post-refused i name v mask y ks logs false (f, fault) held =
+    ((λ (h : Handle). false), y.core, inr (f, (λ is. subst (λ (z : Refusal). PostFault y.core.records name v.value z) is fault), (fault, refl), refl, refl, refl))
 
-  pub post-taken : (name : List ℕ) (e : Elements) (mask : ℕ) (b : Bool) → JudgesPost y.core.records name e b → b ≡ true → MayLack w (Post i name e mask)
-  post-taken name e mask true fits held = (here, fits)
-  post-taken name e mask false fault held = absurd cc
+pub post-lacks : (i : ℕ) (name : List ℕ) (v : Stored) (mask : ℕ) (y y' : ServerSide) (ks ks' : List model.Joined) (logs logs' : List (List Entry)) (r : Result (Unit {0}) Refusal) → IsErrAnd r (λ e. e ≡ OutOfMemory) → PostFits y.core.records name v.value → y' ≡ y → ks' ≡ ks → logs' ≡ logs → PostsAt i name v mask y ks logs r y' ks' logs'
+post-lacks i name v mask y y' ks ks' logs logs' (Ok u) err fits is_y is_k is_l = absurd err
+post-lacks i name v mask y y' ks ks' logs logs' (Err e) err fits is_y is_k is_l =
+    subst (λ (z : Refusal). PostsAt i name v mask y ks logs (Err z) y' ks' logs') (sym err) (fits, is_y, is_k, is_l)
 
-  pub post-refused : (name : List ℕ) (e : Elements) (mask : ℕ) (b : Bool) → JudgesPost y.core.records name e b → b ≡ false → Happens w (Post i name e mask) w
-  post-refused name e mask true fits held = absurd cc
-  post-refused name e mask false (f, fault) held = (
-    here,
-    ((λ (h : Handle). false), y.core, inr (f, (λ is. subst (λ (z : Refusal). PostFault y.core.records name e z) is fault), (fault, refl), refl)),
-  )
+pub add-taken : (rs : List Record) (s : RecordState) (b : Bool) → JudgesAdd rs s b → b ≡ true → MayAdd rs s
+add-taken rs s true may held = may
+add-taken rs s false fault held = absurd cc
 
-  pub add-taken : (s : RecordState) (b : Bool) → JudgesAdd y.core.records s b → b ≡ true → MayLack w (Add i s)
-  add-taken s true may held = (here, may)
-  add-taken s false fault held = absurd cc
+pub add-refusal : (s : RecordState) (y : model.ServerSide) (logs : List (List Entry)) (b : Bool) → JudgesAdd y.core.records s b → b ≡ false → AddsAt s y logs (Ok tt) y logs
+add-refusal s y logs true may held = absurd cc
+add-refusal s y logs false (f, fault) held = (let r = add-refused y.core s f fault in (y.core, 0, inr (f, r.0, r.1, refl, refl)))
 
-  pub add-refusal : (s : RecordState) (b : Bool) → JudgesAdd y.core.records s b → b ≡ false → Happens w (Add i s) w
-  add-refusal s true may held = absurd cc
-  add-refusal s false (f, fault) held =
-      let r = add-refused y.core s f fault in
-      (here, (y.core, 0, inr (f, r.0, r.1, refl)))
+pub add-lacks : (s : RecordState) (y y' : model.ServerSide) (logs logs' : List (List Entry)) (r : Result (Unit {0}) Refusal) → IsErrAnd r (λ e. e ≡ OutOfMemory) → MayAdd y.core.records s → y' ≡ y → logs' ≡ logs → AddsAt s y logs r y' logs'
+add-lacks s y y' logs logs' (Ok u) err may is_y is_l = absurd err
+add-lacks s y y' logs logs' (Err e) err may is_y is_l = subst (λ (z : Refusal). AddsAt s y logs (Err z) y' logs') (sym err) (may, is_y, is_l)
+
+-- a count that a record may have is none that is too great
+pub count-exact : (rs : List Record) (s : RecordState) (own : ℕ) → MayAdd rs s → IsCount s.count own → own ≡ s.count
+count-exact rs s own may (inl is) = is
+count-exact rs s own may (inr over) = (let few = may.2.limit in absurd (omega (arith, few, over.0)))

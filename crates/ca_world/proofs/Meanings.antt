@@ -1,12 +1,12 @@
 -- Every event keeps that each handle means what is beside it.
-use Rattle.std.proofs.Common.{◌≡◌, ℕ, zero, suc, ◌+◌, inl, inr, Bool, true, false, cond, drop, List, [], ◌∷◌, ◌++◌, length, Option, Some, None, Ok, refl, sym, ap, ◌∙◌, subst, arith}
+use Rattle.std.proofs.Common.{◌≡◌, ℕ, ◌+◌, inl, inr, Bool, true, false, cond, drop, List, [], ◌∷◌, ◌++◌, length, Option, Some, None, Ok, refl, sym, ◌∙◌, subst}
 use Rattle.std.specs.Prelude.{option_map, slice_get, slice_set, unwrap_or}
 use Rattle.std.specs.List.{FoldsTo}
 use Rattle.ca_arena.specs.declared.handle.Handle.{Handle}
 use Rattle.ca_dbr.specs.Elements.{Elements}
 use Rattle.ca_ids.specs.Table.{MayGive}
 use Rattle.ca_text.specs.Place.{At}
-use Rattle.ca_text.proofs.Places.{At-set, At-snoc, some_is}
+use Rattle.ca_text.proofs.Places.{At-set, At-snoc}
 use Rattle.ca_model.specs.Answers.{Sending, Stepped}
 use Rattle.ca_model.specs.Answers as answer
 use Rattle.ca_model.specs.Client.{Client}
@@ -22,11 +22,12 @@ use Rattle.ca_model.specs.Events.{Event}
 use Rattle.ca_model.specs.Events as event
 use Rattle.ca_model.specs.Runs.{Happens, clients_below}
 use Rattle.ca_model.specs.ServerEvents.{HappensFinish, ServerStepped, unsaid}
-use Rattle.ca_model.specs.World.{ClientSide, Joined, Names, ServerSide, Setting, World, addresses, client_begun, numbered, opening, with_circuit, with_client}
+use Rattle.ca_model.specs.World.{ClientSide, Joined, Names, ServerSide, Setting, World, addresses, client_begun, opening, with_circuit, with_client}
 use Rattle.ca_laws_parts.proofs.CircuitCalls.{meant-own}
 use Rattle.ca_laws_parts.specs.Held.{IsNew}
 use Rattle.ca_laws_runs.proofs.Issued.{meant-still}
 use Rattle.ca_laws_runs.specs.Quiet.{ClientsQuiet}
+use Rattle.ca_laws_runs.proofs.OnceRuns.{numbered-place}
 use Rattle.ca_laws_parts.specs.Clients.{ClientsStand}
 use Rattle.ca_laws_parts.proofs.RunsSending.{new-name}
 use Rattle.ca_world_data.specs.Named.{AreMeant, IsMeant, MeanTheirs}
@@ -203,14 +204,7 @@ mean-happens w new (event.Tick moment) c q all h = (let t = h.1 in subst (λ (v 
 
 -- ---- a world before any event
 
-pub at-numbered : {A B : Type 0} (n : ℕ) (f : ℕ → A → B) (xs : List A) (i : ℕ) (y : B) → At (numbered n f xs) i y → (x : A) × At xs i x × (y ≡ f (n + i) x)
-at-numbered n f [] i y at = absurd cc
-at-numbered n f (x ∷ xs) zero y at = (x, refl, sym (some_is (f n x) y at) ∙ ap (λ (m : ℕ). f m x) (let same : n ≡ n + 0 = omega arith in same))
-at-numbered n f (x ∷ xs) (suc i) y at =
-    let r = at-numbered (n + 1) f xs i y at in
-    (r.0, r.1, r.2 ∙ ap (λ (m : ℕ). f m r.0) (let same : n + 1 + i ≡ n + suc i = omega arith in same))
-
 pub mean-opening : (setting : Setting) → AreMeant (opening setting).clients
 mean-opening setting i x at =
-    let r = at-numbered 0 (client_begun (addresses setting.servers) 0) setting.clients i x at in
+    let r = numbered-place 0 (client_begun (addresses setting.servers) 0) setting.clients i x at in
     subst (λ (z : ClientSide). IsMeant z.names) (sym r.2) ((λ p e there. absurd cc), (λ p e there. absurd cc))

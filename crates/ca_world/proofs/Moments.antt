@@ -1,12 +1,11 @@
 -- A moment is handed to one client after another.
-use Rattle.std.proofs.Common.{◌≡◌, ℕ, zero, suc, ◌+◌, ◌≤◌, inl, inr, Bool, true, false, List, [], ◌∷◌, ◌++◌, Some, Ok, Err, length, refl, sym, ap, subst, ◌∙◌, arith}
+use Rattle.std.proofs.Common.{◌≡◌, ℕ, ◌+◌, ◌≤◌, inl, inr, Bool, true, false, List, Some, Ok, Err, length, refl, sym, ap, subst, ◌∙◌, arith}
 use Rattle.std.specs.Prelude.{◌&&◌, ◌==◌, IsErr, Option, None, Result, cond, map, option_map, slice_set, unwrap_or}
-use Rattle.std.specs.List.{FoldsTo, range_with_len}
 use Rattle.std.specs.declared.alloc.AllocError.{AllocError}
 use Rattle.std.proofs.lemmas.List.{length-map}
 use Rattle.ca_text.specs.Place.{At}
 use Rattle.ca_text.proofs.Places.{At-map, At-set}
-use Rattle.ca_model.specs.Answers.{Left, Sending}
+use Rattle.ca_model.specs.Answers.{Left}
 use Rattle.ca_model.specs.History.{Entry, Line}
 use Rattle.ca_model.specs.ClientEvents.{TicksOne, after_tick, client_closed, left_silent}
 use Rattle.ca_model.specs.Events.{Tick}
@@ -21,30 +20,15 @@ use Rattle.ca_world_data.specs.Seen.{client_of}
 use Rattle.ca_world_data.specs.Speaking.{sent_up}
 use Rattle.ca_world_data.specs.Ticks.{TellsFew, TicksClient}
 use Rattle.ca_world_data.proofs.Indexes.{KeepsEnds, ends-stay, indexed-map, indexed-same, numbered-of, numbers-set}
+use Rattle.ca_world_data.proofs.Ranges.{folds-more, range-more}
 use Rattle.ca_world_data.proofs.Silences.{numbered-map}
 use Rattle.ca_world_data.proofs.Worlds.{set-map}
+use Rattle.ca_world_data.proofs.Momentary.{sent-keeps}
 use Rattle.ca_world.specs.Halted.{HasStopped}
 use Rattle.ca_world.specs.Ticking.{AllNumbered, AllTellFew, TicksSome, TicksTo, world_with}
 use Rattle.ca_world.specs.Whole.{CameAbout, IsReached}
 use Rattle.ca_world.proofs.Partings.{moment-tells}
-
--- ---- lists
-
-folds-last : {S A : Type 0} (R : S → A → S → Type 0) (xs : List A) (a b c : S) (x : A) → FoldsTo R a xs b → R b x c → FoldsTo R a (xs ++ x ∷ []) c
-folds-last R [] a b c x same step = (c, subst (λ (v : _). R v x c) (sym same) step, refl)
-folds-last R (y ∷ xs) a b c x (mid, one, rest) step = (mid, one, folds-last R xs mid b c x rest step)
-
-range-next : (from n : ℕ) → range_with_len from (suc n) ≡ range_with_len from n ++ (from + n) ∷ []
-range-next from zero = (let e : from ≡ from + 0 = omega arith in ap (λ (k : ℕ). k ∷ []) e)
-range-next from (suc n) =
-    let e : (from + 1) + n ≡ from + suc n = omega arith in
-    ap (λ (l : List ℕ). from ∷ l) (range-next (from + 1) n ∙ ap (λ (k : ℕ). range_with_len (from + 1) n ++ k ∷ []) e)
-
-below-next : (n : ℕ) → clients_below (n + 1) ≡ clients_below n ++ n ∷ []
-below-next n =
-    let e : n + 1 ≡ suc n = omega arith in
-    let z : 0 + n ≡ n = omega arith in
-    ap clients_below e ∙ range-next 0 n ∙ ap (λ (k : ℕ). range_with_len 0 n ++ k ∷ []) z
+use Rattle.ca_queue.proofs.Circuits.{length-set}
 
 -- ---- circuits
 
@@ -55,9 +39,6 @@ tick-keeps i closings j = go (j.client == i && j.lists.client_open) (left_silent
     go false o = ends-stay j j refl
     go true None = ends-stay j j refl
     go true (Some left) = record { client = refl; server = refl; at_client = refl; at_server = refl; closes = λ on. absurd cc; stops = λ on. on }
-
-sent-keeps : (i : ℕ) (n : model.Names) (sent : List Sending) (j : Joined) → KeepsEnds j (sent_up i n sent j)
-sent-keeps i n sent j = record { client = refl; server = refl; at_client = refl; at_server = refl; closes = λ on. on; stops = λ on. on }
 
 -- ---- one client
 
@@ -86,8 +67,8 @@ ticks-none moment cs cl ks ss sl m = refl
 pub ticks-next : (moment n : ℕ) (cs now : List model.ClientSide) (cl cl1 cl2 : List (List Line)) (ks ks1 ks2 : List Joined) (x x' : model.ClientSide) (u : Unit {0}) → TicksTo moment n cs cl ks now cl1 ks1 → At now n x
     → TicksClient n moment x cl1 ks1 (Ok u) x' cl2 ks2 → TicksTo moment (n + 1) cs cl ks (slice_set now n x') cl2 ks2
 ticks-next moment n cs now cl cl1 cl2 ks ks1 ks2 x x' u before at does ss sl m =
-    subst (λ (l : List ℕ). TicksAll moment (world_with cs ss ks cl sl m) l (world_with (slice_set now n x') ss ks2 cl2 sl m)) (sym (below-next n))
-    (folds-last (TicksOne moment) (clients_below n) (world_with cs ss ks cl sl m) (world_with now ss ks1 cl1 sl m) (world_with (slice_set now n x') ss ks2 cl2 sl m) n
+    subst (λ (l : List ℕ). TicksAll moment (world_with cs ss ks cl sl m) l (world_with (slice_set now n x') ss ks2 cl2 sl m)) (sym (range-more n))
+    (folds-more (TicksOne moment) (clients_below n) (world_with cs ss ks cl sl m) (world_with now ss ks1 cl1 sl m) (world_with (slice_set now n x') ss ks2 cl2 sl m) n
     (before ss sl m)
     (one-ticks n moment x x' cl1 cl2 ks1 ks2 now ss sl m u at does))
 
@@ -112,18 +93,13 @@ far-none moment cs cl ks numbered = record {
   indexed = λ ns ss h. h;
 }
 
-set-many : {A : Type 0} (xs : List A) (i : ℕ) (y : A) → length (slice_set xs i y) ≡ length xs
-set-many [] i y = refl
-set-many (x ∷ xs) zero y = refl
-set-many (x ∷ xs) (suc i) y = (let e = set-many xs i y in omega (arith, e))
-
 pub far-next : (moment n : ℕ) (cs now : List ClientSide) (cl cl1 cl2 : List (List Line)) (ks ks1 ks2 : List Joined) (x x' : ClientSide) (u : Unit {0}) → IsAsFar moment n cs now cl cl1 ks ks1 → At now n x
     → TicksClient n moment (client_of x) cl1 ks1 (Ok u) (client_of x') cl2 ks2 → x'.circuits.items ≡ x.circuits.items → IsAsFar moment (n + 1) cs (slice_set now n x') cl cl2 ks ks2
 far-next moment n cs now cl cl1 cl2 ks ks1 ks2 x x' u far at does kept = record {
   ticks =
       subst (λ (l : List model.ClientSide). TicksTo moment (n + 1) (map client_of cs) cl ks l cl2 ks2) (sym (set-map client_of now n x'))
       (ticks-next moment n (map client_of cs) (map client_of now) cl cl1 cl2 ks ks1 ks2 (client_of x) (client_of x') u far.ticks (At-map client_of now n x at) does);
-  many = set-many now n x' ∙ far.many;
+  many = length-set now n x' ∙ far.many;
   rest = λ i y le there. elim (At-set now n x' i y there) [
     | inl own ↦ (let here : i ≡ n = own.0 in absurd (omega (arith, le, here)))
     | inr old ↦ far.rest i y (omega (arith, le)) old.0

@@ -1,5 +1,5 @@
 -- A value is posted at a server, from what its parts became.
-use Rattle.std.proofs.Common.{◌≡◌, ℕ, zero, suc, ◌≤◌, ◌==◌, ◌&&◌, inl, inr, Bool, true, false, List, [], ◌∷◌, Option, Some, None, Result, Ok, Err, length, refl, sym, ap, subst, ◌∙◌, arith}
+use Rattle.std.proofs.Common.{◌≡◌, ℕ, zero, suc, ◌==◌, ◌&&◌, inl, inr, Bool, true, false, List, [], ◌∷◌, Option, Some, None, Result, Ok, Err, refl, sym, ap, subst, ◌∙◌}
 use Rattle.std.specs.Prelude.{filter, if◌then◌else◌, is_some, map, option_map, slice_set, unwrap_or}
 use Rattle.std.specs.List.{fold}
 use Rattle.ca_arena.specs.declared.handle.Handle.{Handle}
@@ -23,7 +23,7 @@ use Rattle.ca_model.specs.ServerCalls.{Posts}
 use Rattle.ca_model.specs.ServerSteps.{reached}
 use Rattle.ca_model.specs.Speech.{Stored}
 use Rattle.ca_model.specs.Events.{Post}
-use Rattle.ca_model.specs.Runs.{CanBe, IsServer}
+use Rattle.ca_model.specs.Runs.{IsServer}
 use Rattle.ca_model.specs.ServerEvents.{ending, ends_by, keys_concerned, left_by, numbers_posted, posted_entry, reported, server_closed, withdrawals, with_number, without_puts}
 use Rattle.ca_model.specs.World.{grown}
 use Rattle.ca_model.specs.World as model
@@ -35,14 +35,14 @@ use Rattle.ca_laws_parts.specs.WritesSteps.{AllInStep}
 use Rattle.ca_world_data.specs.declared.client.ClientSide.{ClientSide}
 use Rattle.ca_world_data.specs.declared.joined.Joined.{Joined}
 use Rattle.ca_world_data.specs.declared.server.ServerSide.{ServerSide}
-use Rattle.ca_world_data.specs.Does.{Does, MayLack}
+use Rattle.ca_world_data.specs.Does.{Does}
 use Rattle.ca_world_data.specs.Indexed.{AreIndexed, server_numbers}
 use Rattle.ca_world_data.specs.Numbering.{AllAlike, AreAlike, IsAlike, keys_within}
 use Rattle.ca_world_data.specs.Posting.{PostsAt, TellsPost}
 use Rattle.ca_world_data.specs.Reporting.{AreServed, gone_at}
 use Rattle.ca_world_data.specs.Seen.{client_of, joined_of, record_of, server_of}
-use Rattle.ca_world_data.proofs.Indexes.{KeepsEnds, ends-stay, indexed-map, indexed-same, numbers-set}
-use Rattle.ca_world_data.proofs.Worlds.{set-map, set-same, world_of}
+use Rattle.ca_world_data.proofs.Indexes.{KeepsEnds, ends-stay, indexed-map, indexed-server}
+use Rattle.ca_world_data.proofs.Worlds.{server-stays, set-map, world_of}
 use Rattle.ca_world.specs.Whole.{IsReached}
 
 -- ---- ends beside their circuits
@@ -85,13 +85,7 @@ each-under f t h = go (under t h) (under (with_each f t) h) refl refl
         none-some : (c : ServerCircuit) → (let x : Option ServerCircuit = None in x ≡ Some c) → ⊥
         none-some c e = cc
 
-module _ (name : List ℕ) (mask : ℕ) (v : Stored) (gone : Handle → Bool) (y core : Server) (posts : Posts y name v mask gone (Ok tt) core) where
-  abbrev change : Handle → ServerCircuit → ServerCircuit
-  change = reached name mask v gone
-
-  post-under : (h : Handle) → under core.circuits h ≡ option_map (change h) (under y.circuits h)
-  post-under h = ap (λ (z : Server). under z.circuits h) posts.2 ∙ each-under change y.circuits h
-
+module _ (name : List ℕ) (mask : ℕ) (v : Stored) (gone : Handle → Bool) where
   within-posted : (key : SubKey) (qs : List (Queue Stored)) → keys_within (map (queue_posted key v) qs) ≡ keys_within qs
   within-posted key [] = refl
   within-posted key (q ∷ qs) = (λ i. one (is_among key q.subscriptions) i ∷ within-posted key qs i)
@@ -104,18 +98,23 @@ module _ (name : List ℕ) (mask : ℕ) (v : Stored) (gone : Handle → Bool) (y
   within-all [] qs = refl
   within-all (s ∷ ss) qs = within-all ss (map (queue_posted (key_of s) v) qs) ∙ within-posted (key_of s) qs
 
-  alike-one : (h : Handle) (o : Option ServerCircuit) (j : model.Joined) → IsAlike o j → IsAlike (option_map (change h) o) j
-  alike-one h None j a = tt
-  alike-one h (Some (Ended cause left)) j a = tt
-  alike-one h (Some (Open e)) j a = go (gone h)
+  -- a post that reaches an end
+  pub reached-alike : (h : Handle) (o : Option ServerCircuit) (j : model.Joined) → IsAlike o j → IsAlike (option_map (reached name mask v gone h) o) j
+  reached-alike h None j a = tt
+  reached-alike h (Some (Ended cause left)) j a = tt
+  reached-alike h (Some (Open e)) j a = go (gone h)
     where
       go : (b : Bool) → IsAlike (Some (if b then Ended why.OutOfMemory e.link.output else Open (with_post name mask v e))) j
       go true = tt
       go false = record { keys = a.keys; apart = a.apart; queues = a.queues ∙ sym (within-all (filter (concerns name mask) e.subscriptions) e.queues) }
 
-  pub alike-posted : (i : ℕ) (ks : List model.Joined) → AllAlike i y ks → AllAlike i core ks
-  alike-posted i ks all k j at mine on =
-      subst (λ (o : Option ServerCircuit). IsAlike o j) (sym (post-under j.at_server)) (alike-one j.at_server (under y.circuits j.at_server) j (all k j at mine on))
+  post-under : (y core : Server) → Posts y name v mask gone (Ok tt) core → (h : Handle) → under core.circuits h ≡ option_map (reached name mask v gone h) (under y.circuits h)
+  post-under y core posts h = ap (λ (z : Server). under z.circuits h) posts.2 ∙ each-under (reached name mask v gone) y.circuits h
+
+  pub alike-posted : (y core : Server) → Posts y name v mask gone (Ok tt) core → (i : ℕ) (ks : List model.Joined) → AllAlike i y ks → AllAlike i core ks
+  alike-posted y core posts i ks all k j at mine on =
+      let h : Handle = j.at_server in
+      subst (λ (o : Option ServerCircuit). IsAlike o j) (sym (post-under y core posts h)) (reached-alike h (under y.circuits h) j (all k j at mine on))
 
 -- ---- numbers
 
@@ -124,7 +123,7 @@ ends-fold : (i : ℕ) (core : Server) (keys : List SubKey) (j : model.Joined) �
 ends-fold i core [] j = refl
 ends-fold i core (key ∷ keys) j = ends-fold i core keys (with_number j key)
 
-closed-fold : (left : List ℕ) (keys : List SubKey) (j : model.Joined) → server_closed left (fold with_number j keys) ≡ server_closed left j
+pub closed-fold : (left : List ℕ) (keys : List SubKey) (j : model.Joined) → server_closed left (fold with_number j keys) ≡ server_closed left j
 closed-fold left [] j = refl
 closed-fold left (key ∷ keys) j = closed-fold left keys (with_number j key)
 
@@ -247,14 +246,9 @@ module _ (cs : List ClientSide) (ss : List ServerSide) (ks : List Joined) (cl : 
   abbrev there : IsServer (world_of cs ss ks cl sl m) i
   there = record { y = server_of y; at = At-map server_of ss i y at }
 
-  stay : (y' : ServerSide) (ks' : List Joined) (sl' : List (List Entry)) → y' ≡ y → map joined_of ks' ≡ map joined_of ks → sl' ≡ sl → world_of cs (slice_set ss i y') ks' cl sl' m ≡ world_of cs ss ks cl sl m
-  stay y' ks' sl' is_y is_k is_l =
-      (λ t. record { clients = map client_of cs; servers = map server_of (slice_set ss i (is_y t)); circuits = is_k t; client_logs = cl; server_logs = is_l t; moment = m })
-      ∙ (λ t. world_of cs (set-same ss i y at t) ks cl sl m)
-
-  pub post-does : MayLack (world_of cs ss ks cl sl m) (Post i name e mask) → (y' : ServerSide) (ks' : List Joined) (sl' : List (List Entry)) (r : Result (Unit {0}) Refusal) → PostsAt i name v mask y (map joined_of ks) sl r y' (map joined_of ks') sl'
+  pub post-does : (y' : ServerSide) (ks' : List Joined) (sl' : List (List Entry)) (r : Result (Unit {0}) Refusal) → PostsAt i name v mask y (map joined_of ks) sl r y' (map joined_of ks') sl'
       → Does (world_of cs ss ks cl sl m) (Post i name e mask) r (world_of cs (slice_set ss i y') ks' cl sl' m)
-  post-does may y' ks' sl' (Ok u) (gone, core, inl (posts, did)) =
+  post-does y' ks' sl' (Ok u) (gone, core, inl (posts, did)) =
       let js : List model.Joined = map joined_of ks in
       let rs : List model.RecordSide = map record_of y.records.items in
       let same = gone-agree name mask v gone y.core core posts i js in
@@ -277,32 +271,20 @@ module _ (cs : List ClientSide) (ss : List ServerSide) (ks : List Joined) (cl : 
           ),
         ),
       )
-  post-does may y' ks' sl' (Ok u) (gone, core, inr (f, other, posts, is_y, is_k, is_l)) =
-      (there, (gone, core, inr (f, other, posts, stay y' ks' sl' is_y is_k is_l)))
-  post-does may y' ks' sl' (Err OutOfMemory) (is_y, is_k, is_l) = (may, stay y' ks' sl' is_y is_k is_l)
-  post-does may y' ks' sl' (Err _) d = absurd d
+  post-does y' ks' sl' (Ok u) (gone, core, inr (f, other, posts, is_y, is_k, is_l)) =
+      (there, (gone, core, inr (f, other, posts, server-stays cs ss ks ks' cl sl sl' m i y y' at (ap server_of is_y) is_k is_l)))
+  post-does y' ks' sl' (Err OutOfMemory) (fits, is_y, is_k, is_l) = ((there, fits), server-stays cs ss ks ks' cl sl sl' m i y y' at (ap server_of is_y) is_k is_l)
+  post-does y' ks' sl' (Err _) d = absurd d
 
   -- circuits are found as before
   pub post-indexed : (numbers : List (List ℕ)) (y' : ServerSide) (ks' : List Joined) (sl' : List (List Entry)) (r : Result (Unit {0}) Refusal) → PostsAt i name v mask y (map joined_of ks) sl r y' (map joined_of ks') sl'
       → AreIndexed numbers (server_numbers ss) (map joined_of ks) → AreIndexed numbers (server_numbers (slice_set ss i y')) (map joined_of ks')
   post-indexed numbers y' ks' sl' (Ok u) (gone, core, inl (posts, did)) h =
       let js : List model.Joined = map joined_of ks in
-      indexed-same numbers numbers (server_numbers ss) (server_numbers (slice_set ss i y')) _ (map joined_of ks') refl
-      (numbers-set (λ (z : ServerSide). z.circuits.items) ss i y y' at did.numbers)
-      did.circuits
+      indexed-server numbers ss i y y' _ (map joined_of ks') at did.numbers did.circuits
       (indexed-map numbers (server_numbers ss) (map (numbers_posted i core name mask) js) (indexed-map numbers (server_numbers ss) js h (numbers_posted i core name mask) (posted-keeps i core name mask)) (ending (ends_by i core)) (ending-keeps (ends_by i core)))
-  post-indexed numbers y' ks' sl' (Ok u) (gone, core, inr (f, other, posts, is_y, is_k, is_l)) h = indexed-still numbers y' ks' is_y is_k h
-    where
-      indexed-still : (numbers : List (List ℕ)) (y' : ServerSide) (ks' : List Joined) → y' ≡ y → map joined_of ks' ≡ map joined_of ks → AreIndexed numbers (server_numbers ss) (map joined_of ks) → AreIndexed numbers (server_numbers (slice_set ss i y')) (map joined_of ks')
-      indexed-still numbers y' ks' is_y is_k h =
-          indexed-same numbers numbers (server_numbers ss) (server_numbers (slice_set ss i y')) (map joined_of ks) (map joined_of ks') refl (numbers-set (λ (z : ServerSide). z.circuits.items) ss i y y' at (ap (λ (z : ServerSide). z.circuits.items) is_y)) is_k h
-  post-indexed numbers y' ks' sl' (Err OutOfMemory) (is_y, is_k, is_l) h =
-      indexed-same numbers numbers (server_numbers ss) (server_numbers (slice_set ss i y')) (map joined_of ks) (map joined_of ks') refl (numbers-set (λ (z : ServerSide). z.circuits.items) ss i y y' at (ap (λ (z : ServerSide). z.circuits.items) is_y)) is_k h
+  post-indexed numbers y' ks' sl' (Ok u) (gone, core, inr (f, other, posts, is_y, is_k, is_l)) h =
+      indexed-server numbers ss i y y' (map joined_of ks) (map joined_of ks') at (ap (λ (z : ServerSide). z.circuits.items) is_y) is_k h
+  post-indexed numbers y' ks' sl' (Err OutOfMemory) (fits, is_y, is_k, is_l) h =
+      indexed-server numbers ss i y y' (map joined_of ks) (map joined_of ks') at (ap (λ (z : ServerSide). z.circuits.items) is_y) is_k h
   post-indexed numbers y' ks' sl' (Err _) d h = absurd d
-
--- no server
-pub post-none : (cs : List ClientSide) (ss : List ServerSide) (ks : List Joined) (cl : List (List Line)) (sl : List (List Entry)) (m i : ℕ) (name : List ℕ) (e : Elements) (mask : ℕ) → length ss ≤ i → CanBe (world_of cs ss ks cl sl m) (Post i name e mask) → ⊥
-post-none cs ss ks cl sl m i name e mask over can =
-    let d = At-mapped server_of ss i can.y can.at in
-    let within = Rattle.ca_text.proofs.Places.At-within ss i d.0 d.1 in
-    absurd (omega (arith, within, over))

@@ -1,5 +1,5 @@
 -- A server's end of a circuit is pumped, from what its parts became.
-use Rattle.std.proofs.Common.{◌≡◌, ◌≢◌, ◌⊎◌, ℕ, zero, suc, ◌==◌, inl, inr, true, false, List, [], ◌∷◌, Some, None, Result, Ok, Err, length, refl, sym, ap, subst, ◌∙◌}
+use Rattle.std.proofs.Common.{◌≡◌, ◌≢◌, ◌⊎◌, ℕ, ◌==◌, inl, inr, true, false, List, [], ◌∷◌, Some, None, Result, Ok, Err, length, refl, sym, ap, subst, ◌∙◌}
 use Rattle.std.specs.Prelude.{map, slice_set}
 use Rattle.std.specs.List.{FoldsTo}
 use Rattle.ca_arena.specs.declared.handle.Handle.{Handle}
@@ -10,6 +10,7 @@ use Rattle.ca_text.proofs.Places.{At-map, At-one, At-set}
 use Rattle.ca_wire.specs.Fields.{Fields}
 use Rattle.ca_model.specs.Ends as why
 use Rattle.ca_queue.specs.Queue.{Queue}
+use Rattle.ca_queue.proofs.Circuits.{set-twice}
 use Rattle.ca_model.specs.History.{Cause, Entry, Line}
 use Rattle.ca_model.specs.Speech.{Stored}
 use Rattle.ca_model.specs.Server.{Server, ServerEnd}
@@ -43,7 +44,7 @@ use Rattle.ca_world_data.proofs.Withdrawals.{told-all}
 use Rattle.ca_world_data.proofs.UpdatesGiven.{bare-images}
 use Rattle.ca_world_data.proofs.Worlds.{joins, none-joined, one-at, same-circuit, set-map, set-same, world_of}
 use Rattle.ca_world.proofs.Cuttings.{run-reported, run-stands}
-use Rattle.ca_world.proofs.Downward.{set-set}
+use Rattle.ca_world.proofs.Downward.{at-set}
 use Rattle.ca_world.proofs.Endings.{ends-number, ends-this, over-reports}
 use Rattle.ca_world.proofs.Reported.{reported-changed}
 use Rattle.ca_world.proofs.Stamping.{told-stamped}
@@ -158,7 +159,7 @@ module _ (cs : List ClientSide) (ss : List ServerSide) (ks : List Joined) (cl : 
         let core_left : ended h why.OutOfMemory left y.core ≡ core = (λ t. ended h why.OutOfMemory (left_is t) y.core) in
         let d : model.Joined = stamped p.updates (joined_of j) in
         let kd : List model.Joined = slice_set (map joined_of ks) k d in
-        let at_d : At kd k d = set-at-here (map joined_of ks) k (joined_of j) d at_k in
+        let at_d : At kd k d = at-set (map joined_of ks) k (joined_of j) d at_k in
         let mine : d.server ≡ j.server = stamped-server p.updates (joined_of j) in
         let open_d : d.lists.server_open ≡ true = stamped-open p.updates (joined_of j) ∙ on in
         let handle : d.at_server ≡ h = stamped-handle p.updates (joined_of j) in
@@ -180,7 +181,7 @@ module _ (cs : List ClientSide) (ss : List ServerSide) (ks : List Joined) (cl : 
         let told : all_withdrawn k y.records.items ≡ withdrawals (ends_at (ends_by j.server core) kd) rs = sym (told-all k y.records.items) ∙ (λ t. withdrawals (sym number t) rs) in
         let circuits : map joined_of (slice_set ks k j') ≡ map (ending (ends_by j.server core)) kd =
         set-map joined_of ks k j' ∙ ap (slice_set (map joined_of ks) k) (closes ∙ ap (server_closed left) (is_stamped new p))
-        ∙ sym (set-set (map joined_of ks) k d (server_closed left d)) ∙ sym ends in (
+        ∙ sym (set-twice (map joined_of ks) k d (server_closed left d)) ∙ sym ends in (
           there,
           record {
             updates = p.updates;
@@ -197,10 +198,6 @@ module _ (cs : List ClientSide) (ss : List ServerSide) (ks : List Joined) (cl : 
           },
         )
       where
-        set-at-here : {A : Type 0} (xs : List A) (n : ℕ) (x z : A) → At xs n x → At (slice_set xs n z) n z
-        set-at-here [] n x z at = absurd cc
-        set-at-here (y ∷ xs) zero x z at = refl
-        set-at-here (y ∷ xs) (suc n) x z at = set-at-here xs n x z at
 
     -- there was no memory for a put that waits, or for an update that may leave
     lacks-there : (all_withdrawn k y.records.items ≢ []) ⊎ MayPump y.core (joined_of j) → HasWaiting k (server_of y) ⊎ MayPump y.core (joined_of j)

@@ -10,14 +10,11 @@ use Rattle.ca_arena.specs.declared.handle.Handle.{Handle}
 use Rattle.ca_ids.specs.Table.{under}
 use Rattle.ca_ids.specs.Wire.{wire_of}
 use Rattle.ca_queue.specs.declared.entry.SubKey.{SubKey}
-use Rattle.ca_queue.specs.Images.{queue_images}
-use Rattle.ca_queue.specs.Keys.{is_among}
-use Rattle.ca_queue.specs.Queue.{Queue}
 use Rattle.ca_queue.proofs.Circuits.{set-twice}
 use Rattle.ca_text.specs.declared.refusal.Refusal.{Refusal}
 use Rattle.ca_text.specs.declared.refusal.Refusal.TheVariants.{OutOfMemory, UnknownRecord}
 use Rattle.ca_text.specs.Place.{At}
-use Rattle.ca_text.proofs.Places.{At-map, At-mapped, At-within}
+use Rattle.ca_text.proofs.Places.{At-map, At-mapped}
 use Rattle.ca_wire.specs.Fields.{Fields}
 use Rattle.ca_wire.specs.declared.header.Header.{Header}
 use Rattle.ca_wire.specs.Header.{header_spelling}
@@ -26,16 +23,14 @@ use Rattle.ca_wire.specs.Messages.{disconnect}
 use Rattle.ca_wire.proofs.Headers.{length-short, spelling-short}
 use Rattle.ca_wire.proofs.Messages.{length-spelling}
 use Rattle.ca_model.specs.Ends as why
-use Rattle.ca_model.specs.History.{Cause, Entry, Line, Told}
+use Rattle.ca_model.specs.History.{Entry, Line, Told}
 use Rattle.ca_model.specs.Server.{Ended, Open, OpenChannel, Server, ServerCircuit}
 use Rattle.ca_model.specs.ServerCalls.{Removes, channels_of, circuit_without, disconnects, end_without}
 use Rattle.ca_model.specs.Events.{Remove}
-use Rattle.ca_model.specs.Runs.{CanBe, IsServer, Runs}
+use Rattle.ca_model.specs.Runs.{IsServer}
 use Rattle.ca_model.specs.ServerEvents.{disconnected_at, ending, ends_at, ends_by, removal_entries, removal_told, removed_at, reported, withdrawals, without_puts, without_standing}
 use Rattle.ca_model.specs.World.{grown}
 use Rattle.ca_model.specs.World as model
-use Rattle.ca_laws_runs.proofs.Acted.{run-follows}
-use Rattle.ca_laws_runs.proofs.StepWhole.{run-serves}
 use Rattle.ca_server_circuit.specs.Concerned.{ids_of}
 use Rattle.ca_server_core.specs.ForHistories.{bytes_under, channels_under}
 use Rattle.ca_world_data.specs.declared.client.ClientSide.{ClientSide}
@@ -43,37 +38,22 @@ use Rattle.ca_world_data.specs.declared.history.LogEntry.{LogEntry as LogEntry}
 use Rattle.ca_world_data.specs.declared.joined.Joined.{Joined}
 use Rattle.ca_world_data.specs.declared.server.RecordSide.{RecordSide}
 use Rattle.ca_world_data.specs.declared.server.ServerSide.{ServerSide}
-use Rattle.ca_world_data.specs.Does.{Does, MayLack}
+use Rattle.ca_world_data.specs.Does.{Does}
 use Rattle.ca_world_data.specs.Indexed.{AreIndexed, server_numbers}
 use Rattle.ca_world_data.specs.Reporting.{AreServed, waits}
 use Rattle.ca_world_data.specs.Seen.{client_of, joined_of, place_of, record_of, server_of}
 use Rattle.ca_world_data.specs.ServerCuts.{HasRoomFor}
-use Rattle.ca_world_data.proofs.Indexes.{KeepsEnds, ends-stay, indexed-map, indexed-same, numbers-set}
-use Rattle.ca_world_data.proofs.Worlds.{set-map, set-same, world_of}
+use Rattle.ca_world_data.proofs.Indexes.{KeepsEnds, ends-stay, indexed-map, indexed-server}
+use Rattle.ca_world_data.proofs.Worlds.{server-stays, set-map, world_of}
 use Rattle.ca_world_servers.specs.declared.losing.Leading.{Leading}
 use Rattle.ca_world_servers.specs.Losing.{AllMayLose, AllReady, AreLost, Disconnects, is_lost, lead_at, lost_by, lost_told, removed_all, without_lost}
 use Rattle.ca_world_servers.specs.Removing.{AllSeated, Becomes, RemovesAt, TellsRemoval}
 use Rattle.ca_world_servers.proofs.Losings.{removed-told}
-use Rattle.ca_world.specs.Whole.{IsReached}
 use Rattle.ca_world.proofs.Postings.{each-under, ending-keeps}
+use Rattle.ca_laws_parts.proofs.WritesLists.{take-whole}
+use Rattle.ca_laws_parts.proofs.UpdatesNumbers.{length-take-within}
 
 -- ---- what stands
-
--- in every run the queues of an open circuit have the subscriptions that stand, and nothing
--- waits there for others
-pub run-seated : (w : model.World) (i : ℕ) → IsReached w → AllSeated i w.circuits
-run-seated w i (s, es, ok, folds) k j there mine on =
-    let runs : Runs s es None w = (w, folds, refl) in
-    let serves = run-serves s es None w ok runs in
-    let seat = serves.stands.sound.seated.each k j there on in
-    let log = serves.stands.sound.within k j there in
-    let holds = (run-follows s es None w ok runs k j seat.y seat.e log.0 there seat.at on seat.has (subst (λ (l : ℕ). At w.server_logs l log.0) seat.joins log.1)).holds in
-    record {
-      stand = λ n q key at has.
-          let d = At-mapped (queue_images _) holds.both n q (subst (λ (qs : List (Queue (ℕ × Cause))). At qs n q) holds.numbers_are at) in
-          holds.seats n d.0 key d.1 (ap (λ (z : Queue (ℕ × Cause)). is_among key z.subscriptions) (sym d.2) ∙ has);
-      known = λ n q x at waits. (serves.numbers k j there on q (n, at) x waits).0;
-    }
 
 -- ---- one circuit
 
@@ -119,15 +99,6 @@ take-long : {A : Type 0} (n : ℕ) (xs : List A) → take (length (take n xs)) x
 take-long zero xs = refl
 take-long (suc n) [] = refl
 take-long (suc n) (x ∷ xs) = ap (λ (t : List _). x ∷ t) (take-long n xs)
-
-take-whole : {A : Type 0} (xs : List A) → take (length xs) xs ≡ xs
-take-whole [] = refl
-take-whole (x ∷ xs) = ap (λ (t : List _). x ∷ t) (take-whole xs)
-
-take-fewer : {A : Type 0} (n : ℕ) (xs : List A) → length (take n xs) ≤ length xs
-take-fewer zero xs = omega arith
-take-fewer (suc n) [] = omega arith
-take-fewer (suc n) (x ∷ xs) = (let rest = take-fewer n xs in omega (arith, rest))
 
 module _ (name : List ℕ) (gone : Handle → Bool) (left : Handle → ℕ) (y core : Server) (removes : Removes y name gone left (Ok tt) core) where
   removed-under : (h : Handle) → under core.circuits h ≡ option_map (circuit_without name gone left h) (under y.circuits h)
@@ -176,7 +147,7 @@ module _ (name : List ℕ) (gone : Handle → Bool) (left : Handle → ℕ) (y c
       cs = channels_of name e
 
       go : (b : Bool) → length (if b then take (left h) cs else cs) ≤ length (map ids_of cs)
-      go true = (let few = take-fewer (left h) cs in let same = length-map cs ids_of in omega (arith, few, same))
+      go true = (let few = length-take-within (left h) cs in let same = length-map cs ids_of in omega (arith, few, same))
       go false = (let same = length-map cs ids_of in omega (arith, same))
 
   module _ (i : ℕ) (ks : List Joined) (ls : List Leading) (ready : AllReady i y name ks ls) where
@@ -349,17 +320,12 @@ module _ (cs : List ClientSide) (ss : List ServerSide) (ks : List Joined) (cl : 
   abbrev there : IsServer (world_of cs ss ks cl sl m) i
   there = record { y = server_of y; at = At-map server_of ss i y at }
 
-  stay : (y' : ServerSide) (ks' : List Joined) (sl' : List (List Entry)) → y' ≡ y → map joined_of ks' ≡ map joined_of ks → sl' ≡ sl → world_of cs (slice_set ss i y') ks' cl sl' m ≡ world_of cs ss ks cl sl m
-  stay y' ks' sl' is_y is_k is_l =
-      (λ t. record { clients = map client_of cs; servers = map server_of (slice_set ss i (is_y t)); circuits = is_k t; client_logs = cl; server_logs = is_l t; moment = m })
-      ∙ (λ t. world_of cs (set-same ss i y at t) ks cl sl m)
-
   abbrev Did : ServerSide → List Joined → List (List Entry) → Result (Unit {0}) Refusal → Type 0
   Did y' ks' sl' r = RemovesAt i name y (map joined_of ks) sl r y' (map joined_of ks') sl'
 
-  pub remove-does : MayLack (world_of cs ss ks cl sl m) (Remove i name) → (y' : ServerSide) (ks' : List Joined) (sl' : List (List Entry)) (r : Result (Unit {0}) Refusal) → Did y' ks' sl' r
+  pub remove-does : (y' : ServerSide) (ks' : List Joined) (sl' : List (List Entry)) (r : Result (Unit {0}) Refusal) → Did y' ks' sl' r
       → Does (world_of cs ss ks cl sl m) (Remove i name) r (world_of cs (slice_set ss i y') ks' cl sl' m)
-  remove-does may y' ks' sl' (Ok u) (gone, left, core, inl (removes, did)) =
+  remove-does y' ks' sl' (Ok u) (gone, left, core, inl (removes, did)) =
       let js : List model.Joined = map joined_of ks in
       let f : model.Joined → model.Joined = removed_at i y.core name gone left in
       let rs : List model.RecordSide = filter (λ (r : model.RecordSide). not (bytes_eq r.name name)) (map record_of y.records.items) in
@@ -385,9 +351,9 @@ module _ (cs : List ClientSide) (ss : List ServerSide) (ks : List Joined) (cl : 
           ),
         ),
       )
-  remove-does may y' ks' sl' (Ok u) (gone, left, core, inr (removes, is_y, is_k, is_l)) = (there, (gone, left, core, inr (removes, stay y' ks' sl' is_y is_k is_l)))
-  remove-does may y' ks' sl' (Err OutOfMemory) (is_y, is_k, is_l) = (may, stay y' ks' sl' is_y is_k is_l)
-  remove-does may y' ks' sl' (Err _) d = absurd d
+  remove-does y' ks' sl' (Ok u) (gone, left, core, inr (removes, is_y, is_k, is_l)) = (there, (gone, left, core, inr (removes, server-stays cs ss ks ks' cl sl sl' m i y y' at (ap server_of is_y) is_k is_l)))
+  remove-does y' ks' sl' (Err OutOfMemory) (held, is_y, is_k, is_l) = ((there, held), server-stays cs ss ks ks' cl sl sl' m i y y' at (ap server_of is_y) is_k is_l)
+  remove-does y' ks' sl' (Err _) d = absurd d
 
   -- circuits are found as before
   pub remove-indexed : (numbers : List (List ℕ)) (y' : ServerSide) (ks' : List Joined) (sl' : List (List Entry)) (r : Result (Unit {0}) Refusal) → Did y' ks' sl' r
@@ -395,19 +361,10 @@ module _ (cs : List ClientSide) (ss : List ServerSide) (ks : List Joined) (cl : 
   remove-indexed numbers y' ks' sl' (Ok u) (gone, left, core, inl (removes, did)) h =
       let js : List model.Joined = map joined_of ks in
       let f : model.Joined → model.Joined = removed_at i y.core name gone left in
-      indexed-same numbers numbers (server_numbers ss) (server_numbers (slice_set ss i y')) _ (map joined_of ks') refl
-      (numbers-set (λ (z : ServerSide). z.circuits.items) ss i y y' at did.reports.numbers)
-      did.reports.circuits
+      indexed-server numbers ss i y y' _ (map joined_of ks') at did.reports.numbers did.reports.circuits
       (indexed-map numbers (server_numbers ss) (map f js) (indexed-map numbers (server_numbers ss) js h f (removal-keeps i y.core name gone left)) (ending (ends_by i core)) (ending-keeps (ends_by i core)))
   remove-indexed numbers y' ks' sl' (Ok u) (gone, left, core, inr (removes, is_y, is_k, is_l)) h =
-      indexed-same numbers numbers (server_numbers ss) (server_numbers (slice_set ss i y')) (map joined_of ks) (map joined_of ks') refl (numbers-set (λ (z : ServerSide). z.circuits.items) ss i y y' at (ap (λ (z : ServerSide). z.circuits.items) is_y)) is_k h
-  remove-indexed numbers y' ks' sl' (Err OutOfMemory) (is_y, is_k, is_l) h =
-      indexed-same numbers numbers (server_numbers ss) (server_numbers (slice_set ss i y')) (map joined_of ks) (map joined_of ks') refl (numbers-set (λ (z : ServerSide). z.circuits.items) ss i y y' at (ap (λ (z : ServerSide). z.circuits.items) is_y)) is_k h
+      indexed-server numbers ss i y y' (map joined_of ks) (map joined_of ks') at (ap (λ (z : ServerSide). z.circuits.items) is_y) is_k h
+  remove-indexed numbers y' ks' sl' (Err OutOfMemory) (held, is_y, is_k, is_l) h =
+      indexed-server numbers ss i y y' (map joined_of ks) (map joined_of ks') at (ap (λ (z : ServerSide). z.circuits.items) is_y) is_k h
   remove-indexed numbers y' ks' sl' (Err _) d h = absurd d
-
--- no server
-pub remove-none : (cs : List ClientSide) (ss : List ServerSide) (ks : List Joined) (cl : List (List Line)) (sl : List (List Entry)) (m i : ℕ) (name : List ℕ) → length ss ≤ i → CanBe (world_of cs ss ks cl sl m) (Remove i name) → ⊥
-remove-none cs ss ks cl sl m i name over can =
-    let d = At-mapped server_of ss i can.y can.at in
-    let within = At-within ss i d.0 d.1 in
-    absurd (omega (arith, within, over))

@@ -24,7 +24,7 @@ use Rattle.ca_model.specs.Runs.{Happens, clients_below}
 use Rattle.ca_model.specs.ServerEvents.{HappensFinish, ServerStepped, left_by, reported, unsaid}
 use Rattle.ca_model.specs.World.{ClientSide, Joined, ServerSide, Setting, World, opening, server_begun, with_circuit, with_client}
 use Rattle.ca_world.specs.Reported.{AllReported, HasReported, IsReportedTable}
-use Rattle.ca_world.proofs.Meanings.{at-numbered}
+use Rattle.ca_laws_runs.proofs.OnceRuns.{numbered-place}
 
 -- ---- tables
 
@@ -223,7 +223,7 @@ reported-happens w new (event.Tick moment) all h = (let t = h.1 in subst (λ (v 
 
 pub reported-opening : (setting : Setting) → AllReported (opening setting).servers
 reported-opening setting i y at =
-    let r = at-numbered 0 (server_begun 0) setting.servers i y at in
+    let r = numbered-place 0 (server_begun 0) setting.servers i y at in
     subst (λ (z : ServerSide). HasReported z.core) (sym r.2) (λ n p there. absurd cc)
 
 pub reported-events : (es : List Event) (w new : World) → AllReported w.servers → FoldsTo Happens w es new → AllReported new.servers

@@ -5,11 +5,9 @@ use Rattle.ca_arena.specs.declared.handle.Handle.{Handle}
 use Rattle.ca_text.specs.declared.refusal.Refusal.{Refusal}
 use Rattle.ca_text.specs.declared.refusal.Refusal.TheVariants.{BadEvent, OutOfMemory}
 use Rattle.ca_text.specs.Place.{At}
-use Rattle.ca_text.proofs.Places.{At-map, At-one, some_is}
+use Rattle.ca_text.proofs.Places.{At-map, At-one}
 use Rattle.ca_model.specs.Answers.{Sending}
-use Rattle.ca_model.specs.Client.{Client, On, Standing}
-use Rattle.ca_model.specs.Client as phase
-use Rattle.ca_model.specs.ClientCalls.{IsLive, LiveChannel}
+use Rattle.ca_model.specs.Client.{Client}
 use Rattle.ca_model.specs.History.{Line}
 use Rattle.ca_model.specs.History as history
 use Rattle.ca_model.specs.ClientEvents.{Called, client_after}
@@ -28,9 +26,10 @@ use Rattle.ca_world_data.specs.Indexed.{AreIndexed, client_numbers, server_numbe
 use Rattle.ca_world.specs.Whole.{Stands, seen}
 use Rattle.ca_world_data.specs.Seen.{client_of, joined_of}
 use Rattle.ca_world_data.specs.Speaking.{CallsOn, sent_up}
-use Rattle.ca_world_data.proofs.Indexes.{KeepsEnds, indexed-map, indexed-same, numbered-of, numbers-set}
+use Rattle.ca_world_data.proofs.Indexes.{indexed-map, indexed-same, numbered-of, numbers-set}
 use Rattle.ca_world.proofs.Lasting.{all-stand}
 use Rattle.ca_world_data.proofs.Worlds.{set-map, set-same}
+use Rattle.ca_world_data.proofs.Momentary.{sent-keeps}
 
 -- the world with another client, other logs and other circuits
 abbrev pub spoken_in : (i : ℕ) → model.ClientSide → List (List Line) → List model.Joined → model.World → model.World
@@ -66,10 +65,6 @@ call-noted i Named Answers spoken names lines x x' logs logs' ks ks' h e (Ok u) 
 call-noted i Named Answers spoken names lines x x' logs logs' ks ks' h e (Err r) named is side stay n =
     subst (λ (z : Refusal). CallsOn i Named Answers spoken names lines x logs ks (Err z) x' logs' ks') (sym n.1) (h, named, side, n.2, stay)
 
--- circuits are found by their handles still
-sent-keeps : (i : ℕ) (n : model.Names) (sent : List Sending) (j : model.Joined) → KeepsEnds j (sent_up i n sent j)
-sent-keeps i n sent j = record { client = refl; server = refl; at_client = refl; at_server = refl; closes = λ on. on; stops = λ on. on }
-
 pub calls-keep : {K A : Type 0} (i : ℕ) (Named : K → Type 0) (Answers : K → Result A Refusal → List Sending → Client → Type 0) (spoken names : K → A → model.Names) (lines : K → A → List Line) (x x' : model.ClientSide) (logs logs' : List (List Line)) (ks ks' : List model.Joined) (r : Result (Unit {0}) Refusal)
     → CallsOn i Named Answers spoken names lines x logs ks r x' logs' ks' → (cs ss : List (List ℕ)) → AreIndexed cs ss ks → AreIndexed cs ss ks'
 calls-keep i Named Answers spoken names lines x x' logs logs' ks ks' (Ok u) (h, named, inl d) cs ss is = indexed-same cs cs ss ss ks ks' refl refl d.stay is
@@ -78,17 +73,6 @@ calls-keep i Named Answers spoken names lines x x' logs logs' ks ks' (Ok u) (h, 
 calls-keep i Named Answers spoken names lines x x' logs logs' ks ks' (Err OutOfMemory) d cs ss is = indexed-same cs cs ss ss ks ks' refl refl d.4 is
 calls-keep i Named Answers spoken names lines x x' logs logs' ks ks' (Err BadEvent) d cs ss is = indexed-same cs cs ss ss ks ks' refl refl d.3 is
 calls-keep i Named Answers spoken names lines x x' logs logs' ks ks' (Err _) d cs ss is = absurd d
-
--- a channel is live in one way
-pub live-once : (x : Client) (h : Handle) (l m : LiveChannel) → IsLive x h l → IsLive x h m → l ≡ m
-live-once x h l m is also = parts (some_is (On l.circuit (phase.Live l.native l.rights)) (On m.circuit (phase.Live m.native m.rights)) (sym is ∙ also))
-  where
-    there : Standing → LiveChannel
-    there (On c (phase.Live n rights)) = record { circuit = c; native = n; rights = rights }
-    there s = l
-
-    parts : On l.circuit (phase.Live l.native l.rights) ≡ On m.circuit (phase.Live m.native m.rights) → l ≡ m
-    parts e = ap there e
 
 -- no channel, and no subscription, has this number
 pub no-channel : (w : model.World) (i c : ℕ) (x : model.ClientSide) → At w.clients i x → ((h : Handle) → At x.names.channels c h → ⊥) → HadChannel w i c → ⊥

@@ -1,5 +1,5 @@
 -- The numbers that a circuit's queues give are those that the statement stamps onto updates.
-use Rattle.std.proofs.Common.{◌≡◌, ℕ, zero, suc, ◌<◌, ◌⊎◌, inl, inr, Bool, true, false, List, [], ◌∷◌, ◌++◌, Option, Some, None, refl, sym, ap, subst, ◌∙◌, arith}
+use Rattle.std.proofs.Common.{◌≡◌, ℕ, ◌<◌, ◌⊎◌, inl, inr, Bool, true, false, List, [], ◌∷◌, ◌++◌, Option, Some, None, refl, sym, ap, subst, ◌∙◌}
 use Rattle.std.specs.List.{FoldsTo}
 use Rattle.std.specs.Prelude.{if◌then◌else◌, option_and_then, option_map, slice_get, slice_set, unwrap_or}
 use Rattle.ca_queue.specs.declared.entry.SubKey.{SubKey}
@@ -16,23 +16,13 @@ use Rattle.ca_model.specs.ServerSteps.{Leaves, Update}
 use Rattle.ca_model.specs.Speech.{Stored}
 use Rattle.ca_model.specs.ServerEvents.{front_number, stamped}
 use Rattle.ca_model.specs.World.{Joined}
+use Rattle.ca_model.proofs.Thinner.{three-ways}
 use Rattle.ca_laws_parts.specs.InStep.{InStep, Numbered, number_in, value_in}
 use Rattle.ca_laws_parts.proofs.InStep.{step-pumped}
 use Rattle.ca_world_data.specs.Updates.{TellsOne, shown_by}
 use Rattle.ca_world_data.proofs.UpdatesTold.{rest-images}
 
 -- ---- one take
-
-which : (a b : ℕ) → (a < b) ⊎ ((a ≡ b) ⊎ (b < a))
-which zero zero = inr (inl refl)
-which zero (suc b) = inl (omega arith)
-which (suc a) zero = inr (inr (omega arith))
-which (suc a) (suc b) = go (which a b)
-  where
-    go : (a < b) ⊎ ((a ≡ b) ⊎ (b < a)) → (suc a < suc b) ⊎ ((suc a ≡ suc b) ⊎ (suc b < suc a))
-    go (inl lt) = inl (omega (arith, lt))
-    go (inr (inl e)) = inr (inl (ap suc e))
-    go (inr (inr lt)) = inr (inr (omega (arith, lt)))
 
 module _ {E : Type 0} where
   not-both : (o : Option (SubKey × E)) (w : SubKey × E) → o ≡ None → o ≡ Some w → ⊥
@@ -41,7 +31,7 @@ module _ {E : Type 0} where
   -- of queues of which this is the first that gives, a take takes that
   taken-there : (qs new : List (Queue E)) (place i : ℕ) (key : SubKey) (item : E) (r : Queue E) (w : SubKey × E) → Takes qs (Some (place, key, item)) new → At qs i r → RestBefore qs i → taken r.events_on r.waiting ≡ Some w
       → ((key, item) ≡ w) × (new ≡ slice_set qs i (with_front_taken r))
-  taken-there qs new place i key item r w (q, at, rest, gives, is) here before some = go (which place i)
+  taken-there qs new place i key item r w (q, at, rest, gives, is) here before some = go (three-ways place i)
     where
       go : (place < i) ⊎ ((place ≡ i) ⊎ (i < place)) → ((key, item) ≡ w) × (new ≡ slice_set qs i (with_front_taken r))
       go (inl lt) = absurd (not-both (taken q.events_on q.waiting) (key, item) (before place q lt at) gives)

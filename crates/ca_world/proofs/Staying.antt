@@ -1,8 +1,7 @@
 -- A call of a server is over, and none of its ends ended.
-use Rattle.std.proofs.Common.{◌≡◌, ℕ, zero, suc, ◌==◌, ◌&&◌, ◌++◌, Bool, true, false, not, List, [], ◌∷◌, Option, Some, None, refl, sym, ap, ◌∙◌}
+use Rattle.std.proofs.Common.{◌≡◌, ℕ, ◌==◌, ◌&&◌, ◌++◌, Bool, true, false, not, List, [], ◌∷◌, Option, Some, None, refl, sym, ap, ◌∙◌}
 use Rattle.std.specs.Prelude.{filter, if◌then◌else◌, is_some, map, option_map, slice_get, unwrap_or}
 use Rattle.std.specs.List.{flat_map}
-use Rattle.std.proofs.lemmas.List.{append-nil}
 use Rattle.ca_ids.specs.Table.{under}
 use Rattle.ca_model.specs.History as entry
 use Rattle.ca_model.specs.History.{Entry}
@@ -12,6 +11,7 @@ use Rattle.ca_model.specs.World.{Joined, PutPlace, RecordSide, ServerSide, World
 use Rattle.ca_world_data.specs.declared.server.ServerSide.{ServerSide as Side}
 use Rattle.ca_world_data.specs.Reporting.{Reports, gone_at}
 use Rattle.ca_world_data.specs.Seen.{record_of, server_of}
+use Rattle.ca_world_data.proofs.Silences.{grown-nil}
 use Rattle.ca_world.specs.Reported.{HasReported}
 use Rattle.ca_world.proofs.Endings.{freed-none, none-under}
 
@@ -62,12 +62,6 @@ records-all : (rs : List RecordSide) → map (without_puts nobody) rs ≡ rs
 records-all [] = refl
 records-all (r ∷ rs) = (λ t. record r { waiting = places-all r.waiting t } ∷ records-all rs t)
 
--- a log that gets no entry
-pub grown-none : {A : Type 0} (life : ℕ) (logs : List (List A)) → grown life [] logs ≡ logs
-grown-none life [] = refl
-grown-none zero (log ∷ logs) = ap (λ (l : List _). l ∷ logs) (append-nil log)
-grown-none (suc life) (log ∷ logs) = ap (λ (l : List (List _)). log ∷ l) (grown-none life logs)
-
 reports-none : (core : Server) → HasReported core → reported core ≡ core
 reports-none core all = (λ t. record core { circuits = freed-none core.circuits all t })
 
@@ -79,7 +73,7 @@ after-none i y core w all =
     with_entries y.life (withdrawals (at-none w.circuits t) y.records)
     (with_server i (record y { core = reports-none core all t; records = map (without_puts (at-none w.circuits t)) y.records }) (record w { circuits = ends-none w.circuits t })))
     ∙ (λ t. with_entries y.life (told-none y.records t) (with_server i (record y { core = core; records = records-all y.records t }) w))
-    ∙ (λ t. record (with_server i (record y { core = core }) w) { server_logs = grown-none y.life w.server_logs t })
+    ∙ (λ t. record (with_server i (record y { core = core }) w) { server_logs = grown-nil y.life w.server_logs t })
 
 -- a server whose ends are reported has none to report
 pub quiet-reports : (i : ℕ) (y : Side) (ks : List Joined) (logs : List (List Entry)) → HasReported y.core → Reports i y ks logs y ks logs
@@ -91,7 +85,7 @@ quiet-reports i y ks logs all =
     let core : reported y.core ≡ y.core = reports-none y.core all in
     let circuits : map (ending (ends_by i y.core)) ks ≡ ks = ap (λ (ends : Joined → Option (List ℕ)). map (ending ends) ks) none ∙ ends-none ks in
     let logged : grown y.life (withdrawals (gone_at i y.core ks) rs) logs ≡ logs =
-    ap (λ (g : ℕ → Bool). grown y.life (withdrawals g rs) logs) gone ∙ ap (λ (es : List Entry). grown y.life es logs) (told-none rs) ∙ grown-none y.life logs in
+    ap (λ (g : ℕ → Bool). grown y.life (withdrawals g rs) logs) gone ∙ ap (λ (es : List Entry). grown y.life es logs) (told-none rs) ∙ grown-nil y.life logs in
     record {
       side = (λ t. record (server_of y) { core = sym core t; records = sym kept t });
       numbers = refl;

@@ -32,7 +32,7 @@ use Rattle.ca_world_data.specs.Seen.{record_of, server_of}
 use Rattle.ca_world_data.proofs.Worlds.{set-same}
 use Rattle.ca_world_servers.specs.Effects.{TellsAction, TellsWrite, is_busy_in, wrote_in}
 use Rattle.ca_world_servers.specs.declared.ahead.Ahead.{Ahead}
-use Rattle.ca_world_servers.specs.EndsWith.{ReportsWith, ends_under}
+use Rattle.ca_world_data.specs.EndsWith.{ReportsWith, ends_under}
 use Rattle.ca_world_servers.proofs.Dealt.{left_written, wrote-lacks}
 use Rattle.ca_world_servers.proofs.Done.{WasDone, tells-busies}
 

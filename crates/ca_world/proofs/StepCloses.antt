@@ -1,5 +1,5 @@
 -- A step of a server's end: what is known when it begins, and where its message stands.
-use Rattle.std.proofs.Common.{◌≡◌, ℕ, ◌<◌, List, Option, Result, Ok, Err, length, get_or, inl, inr, sym, ap, subst, ◌∙◌, arith}
+use Rattle.std.proofs.Common.{◌≡◌, ℕ, ◌<◌, List, Option, Result, Ok, Err, length, get_or, sym, ap, subst, ◌∙◌, arith}
 use Rattle.std.specs.Prelude.{IsErrAnd, map, slice_set, vec_len}
 use Rattle.std.proofs.lemmas.List.{length-map}
 use Rattle.ca_arena.specs.declared.handle.Handle.{Handle}
@@ -8,7 +8,7 @@ use Rattle.ca_text.specs.declared.refusal.Refusal.{Refusal}
 use Rattle.ca_text.specs.declared.refusal.Refusal.TheVariants.{OutOfMemory}
 use Rattle.ca_text.specs.Limits.{applied_limit}
 use Rattle.ca_text.specs.Place.{At}
-use Rattle.ca_text.proofs.Places.{At-map, At-one, At-or, At-within}
+use Rattle.ca_text.proofs.Places.{At-map, At-one, At-within}
 use Rattle.ca_wire.specs.Fields.{Fields}
 use Rattle.ca_model.specs.History.{Entry}
 use Rattle.ca_model.specs.Server.{Server, ServerCircuit}
@@ -33,10 +33,6 @@ pub place-of : (ks : List Joined) (k : ℕ) (x : Joined) (j : model.Joined) → 
 place-of ks k x j there at =
     let one : joined_of x ≡ j = At-one (map joined_of ks) k (joined_of x) j (At-map joined_of ks k x there) at in
     x.lists.handled.ok.0 ∙ sym (length-map x.lists.handled.items step_of) ∙ ap (λ (z : model.Joined). length z.lists.handled) one
-
--- a circuit is there
-pub there-is : {A : Type 0} (xs : List A) (k : ℕ) → k < length xs → (x : A) × At xs k x
-there-is xs k within = elim (At-or xs k) [ inl found ↦ found | inr over ↦ absurd (omega (arith, within, over)) ]
 
 -- ---- a step without memory
 

@@ -1,21 +1,15 @@
 -- What is known of the circuits once a message was handled: for what it did to be told, and
 -- for its end to close.
-use Rattle.std.proofs.Common.{◌≡◌, ℕ, ◌<◌, inl, inr, Bool, true, false, List, [], ◌∷◌, Option, Some, None, refl, sym, ap, subst, ◌∙◌}
-use Rattle.std.specs.Prelude.{filter, if◌then◌else◌, map, option_map, slice_set}
-use Rattle.std.specs.List.{fold}
+use Rattle.std.proofs.Common.{◌≡◌, ℕ, ◌<◌, inl, inr, Bool, true, false, List, [], Option, Some, None, refl, sym, ap, subst, ◌∙◌}
+use Rattle.std.specs.Prelude.{if◌then◌else◌, map, slice_set}
 use Rattle.ca_arena.specs.declared.handle.Handle.{Handle}
 use Rattle.ca_ids.specs.Table.{Table, under, with_changed}
 use Rattle.ca_link.specs.Link.{with_rest, with_sent}
-use Rattle.ca_queue.specs.declared.entry.SubKey.{SubKey}
-use Rattle.ca_queue.specs.Circuit.{queue_posted}
-use Rattle.ca_queue.specs.Keys.{is_among}
-use Rattle.ca_queue.specs.Queue.{Queue, posted}
 use Rattle.ca_text.specs.Place.{At}
 use Rattle.ca_text.proofs.Places.{At-map, At-mapped, At-set}
 use Rattle.ca_model.specs.Due.{Action, Adds, Applies, Clears, Drops, Greets, Names, Nothing, Opens, Switches, Waits}
-use Rattle.ca_model.specs.Ends as why
 use Rattle.ca_model.specs.History.{Step, Told}
-use Rattle.ca_model.specs.Server.{Ended, Open, Server, ServerCircuit, ServerEnd, Subscription, concerns, key_of, with_post}
+use Rattle.ca_model.specs.Server.{Ended, Open, Server, ServerCircuit, ServerEnd, key_of}
 use Rattle.ca_model.specs.ServerSteps.{Handles, HasEnd, Next, Reaches, Records, is_write, reached, stored_now, write_mask}
 use Rattle.ca_model.specs.Speech.{Stored}
 use Rattle.ca_model.proofs.Handles.{handle-or}
@@ -39,8 +33,9 @@ use Rattle.ca_world_servers.specs.Effects.{wrote_by}
 use Rattle.ca_world_servers.proofs.Dealt.{busies_of, wrote-due}
 use Rattle.ca_world_servers.proofs.Done.{WasDone}
 use Rattle.ca_wire.specs.Fields.{Fields}
+use Rattle.ca_world.proofs.Postings.{each-under, reached-alike}
 use Rattle.ca_world.proofs.Reported.{reported-changed}
-use Rattle.ca_world.proofs.StepNumbers.{each-under, wrote-circuits}
+use Rattle.ca_world.proofs.StepNumbers.{wrote-circuits}
 
 -- ---- by the action
 
@@ -88,29 +83,6 @@ changed-alike y h e next has subs queues j alike = elim (handle-or j.at_server h
       subst (λ (o : Option ServerCircuit). IsAlike o j) (sym (changed-own (λ (c : ServerCircuit). Open next) y.circuits h (Open e) has)) (as-alike e next j subs queues was) in
       subst (λ (x : Handle). IsAlike (under (with_changed (λ (c : ServerCircuit). Open next) h y.circuits) x) j) (sym same) now
 ]
-
-module _ (name : List ℕ) (mask : ℕ) (v : Stored) (gone : Handle → Bool) where
-  within-posted : (key : SubKey) (qs : List (Queue Stored)) → keys_within (map (queue_posted key v) qs) ≡ keys_within qs
-  within-posted key [] = refl
-  within-posted key (q ∷ qs) = (λ t. one (is_among key q.subscriptions) t ∷ within-posted key qs t)
-    where
-      one : (b : Bool) → (if b then posted key v q else q).subscriptions ≡ q.subscriptions
-      one true = refl
-      one false = refl
-
-  within-all : (ss : List Subscription) (qs : List (Queue Stored)) → keys_within (fold (λ (rs : List (Queue Stored)) (s : Subscription). map (queue_posted (key_of s) v) rs) qs ss) ≡ keys_within qs
-  within-all [] qs = refl
-  within-all (s ∷ ss) qs = within-all ss (map (queue_posted (key_of s) v) qs) ∙ within-posted (key_of s) qs
-
-  -- a post that reaches an end
-  reached-alike : (h : Handle) (o : Option ServerCircuit) (j : Joined) → IsAlike o j → IsAlike (option_map (reached name mask v gone h) o) j
-  reached-alike h None j a = tt
-  reached-alike h (Some (Ended cause left)) j a = tt
-  reached-alike h (Some (Open e)) j a = go (gone h)
-    where
-      go : (b : Bool) → IsAlike (Some (if b then Ended why.OutOfMemory e.link.output else Open (with_post name mask v e))) j
-      go true = tt
-      go false = record { keys = a.keys; apart = a.apart; queues = a.queues ∙ sym (within-all (filter (concerns name mask) e.subscriptions) e.queues) }
 
 -- a circuit with other lists
 lists-alike : (d : List Told) (s : List Step) (o : Option ServerCircuit) (j : Joined) → IsAlike o j → IsAlike o (with_lists d s j)

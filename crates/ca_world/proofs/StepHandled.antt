@@ -25,10 +25,11 @@ use Rattle.ca_world_servers.specs.declared.ahead.Ahead.{Ahead}
 use Rattle.ca_world_servers.specs.Effects.{TellsAction, TellsMessage}
 use Rattle.ca_world_servers.specs.Handling.{with_handled}
 use Rattle.ca_world_servers.proofs.Done.{WasDone, tells-action}
-use Rattle.ca_world.proofs.Downward.{at-set, set-set}
+use Rattle.ca_world.proofs.Downward.{at-set}
 use Rattle.ca_world.proofs.StepFacts.{was-done}
 use Rattle.ca_world.proofs.StepLists.{ending-aside, ending-lists, gone-aside, write-lists}
 use Rattle.ca_world.proofs.StepNumbers.{gone-agree, quits-by, writes-agree}
+use Rattle.ca_queue.proofs.Circuits.{set-twice}
 
 -- what went down and was handled on a circuit stays
 abbrev Lasts : Joined → Joined → Type 0
@@ -101,12 +102,12 @@ module _ (k : ℕ) (j : Joined) (before core : Server) (ks : List Joined) (e : S
   -- the same circuits end as without the lists aside
   gone-is : ends_at ends (map (write_numbers j.server core action) (slice_set ks k (with_lists [] [] numbered))) ≡ ends_at ends acted
   gone-is =
-      ap (λ (cs : List Joined). ends_at ends (map (write_numbers j.server core action) cs)) (sym (set-set ks k numbered (with_lists [] [] numbered)))
+      ap (λ (cs : List Joined). ends_at ends (map (write_numbers j.server core action) cs)) (sym (set-twice ks k numbered (with_lists [] [] numbered)))
       ∙ gone-aside j.server core action plain k numbered there [] [] ∙ same-gone
 
   over-is : map (ending ends) (map (write_numbers j.server core action) (slice_set ks k (with_lists [] [] numbered))) ≡ slice_set mid k (with_lists [] [] here)
   over-is =
-      ap (λ (cs : List Joined). map (ending ends) (map (write_numbers j.server core action) cs)) (sym (set-set ks k numbered (with_lists [] [] numbered)))
+      ap (λ (cs : List Joined). map (ending ends) (map (write_numbers j.server core action) cs)) (sym (set-twice ks k numbered (with_lists [] [] numbered)))
       ∙ ending-aside j.server core action plain k numbered there [] [] ∙ ap (λ (cs : List Joined). slice_set cs k (with_lists [] [] here)) agree
 
   here-at : At mid k here
@@ -137,7 +138,7 @@ module _ (k : ℕ) (j : Joined) (before core : Server) (ks : List Joined) (e : S
     set-is : slice_set over k (with_handled step told (with_lists down handled x)) ≡ slice_set mid k (handled_at (length j.lists.handled) now d.next.replies here)
     set-is =
         (λ t. slice_set (is t) k (with_handled step told (with_lists down handled (x-is t))))
-        ∙ set-set mid k (with_lists [] [] here) (with_handled step told (with_lists down handled (with_lists [] [] here))) ∙ ap (slice_set mid k) back
+        ∙ set-twice mid k (with_lists [] [] here) (with_handled step told (with_lists down handled (with_lists [] [] here))) ∙ ap (slice_set mid k) back
 
     noted-is : slice_set over k (with_handled step told (with_lists down handled x)) ≡ unwrap_or (option_map (λ (c : Joined). slice_set mid k (handled_at (length j.lists.handled) now d.next.replies c)) (slice_get mid k)) mid
     noted-is = set-is ∙ sym (ap (λ (o : Option Joined). unwrap_or (option_map (λ (c : Joined). slice_set mid k (handled_at (length j.lists.handled) now d.next.replies c)) o) mid) here-at)

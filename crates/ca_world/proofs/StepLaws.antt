@@ -1,9 +1,8 @@
 -- A step of a server's end: the world, from what its parts became.
-use Rattle.std.proofs.Common.{◌≡◌, ℕ, zero, suc, ◌+◌, ◌==◌, ◌&&◌, inl, inr, Bool, true, false, List, [], ◌∷◌, ◌++◌, Option, Some, None, length, refl, sym, ap, subst, ◌∙◌}
+use Rattle.std.proofs.Common.{◌≡◌, ℕ, zero, suc, inl, inr, Bool, true, false, List, [], ◌∷◌, Option, Some, None, length, refl, sym, ap, subst, ◌∙◌}
 use Rattle.std.specs.Prelude.{◌≢◌, if◌then◌else◌, map, option_map, slice_get, slice_set, unwrap_or}
 use Rattle.ca_arena.specs.declared.handle.Handle.{Handle}
 use Rattle.ca_text.specs.Place.{At}
-use Rattle.ca_text.proofs.Places.{some_is}
 use Rattle.ca_wire.specs.Fields.{Fields}
 use Rattle.ca_model.specs.Due.{Action}
 use Rattle.ca_model.specs.Ends.{Why}
@@ -15,6 +14,8 @@ use Rattle.ca_model.specs.ServerSteps as stepped
 use Rattle.ca_model.specs.ServerEvents.{HappensServerStep, StepHandles, StepLacks, acted, ends_at, ends_by, ends_here, handled_at, noted, reported, server_after, side_of, unsaid, without_puts}
 use Rattle.ca_model.specs.World.{Joined, ServerSide, World, log_length}
 use Rattle.ca_world.specs.ServerStepping.{BreaksAt, HandlesAt, LacksAs, LacksAt, Quits, RestsAt, StepsAt, circuits_acted, logs_acted, records_acted}
+use Rattle.ca_queue.proofs.Circuits.{set-twice}
+use Rattle.ca_world_data.proofs.Worlds.{set-same}
 
 -- ---- lists
 
@@ -22,16 +23,6 @@ get-set : {A : Type 0} (xs : List A) (i : ℕ) (x z : A) → At xs i x → slice
 get-set [] i x z at = absurd cc
 get-set (w ∷ xs) zero x z at = refl
 get-set (w ∷ xs) (suc i) x z at = get-set xs i x z at
-
-set-twice : {A : Type 0} (xs : List A) (i : ℕ) (x z : A) → slice_set (slice_set xs i x) i z ≡ slice_set xs i z
-set-twice [] i x z = refl
-set-twice (w ∷ xs) zero x z = refl
-set-twice (w ∷ xs) (suc i) x z = ap (λ (t : List _). w ∷ t) (set-twice xs i x z)
-
-kept : {A : Type 0} (xs : List A) (i : ℕ) (x : A) → At xs i x → slice_set xs i x ≡ xs
-kept [] i x at = refl
-kept (z ∷ xs) zero x at = ap (λ (v : _). v ∷ xs) (sym (some_is z x at))
-kept (z ∷ xs) (suc i) x at = ap (λ (t : List _). z ∷ t) (kept xs i x at)
 
 -- ---- the world
 
@@ -126,7 +117,7 @@ module _ (w : World) (k : ℕ) (j : Joined) (y : ServerSide) (at : At w.servers 
           let circuits = r.circuits in
           let logged = r.logged in
           (λ t. record w { servers = slice_set w.servers i (side t); circuits = circuits t; server_logs = logged t })
-          ∙ ap (λ (ss : List ServerSide). record w { servers = ss }) (kept w.servers i y at)
+          ∙ ap (λ (ss : List ServerSide). record w { servers = ss }) (set-same w.servers i y at)
 
       go : (b : Bool) → b ≡ r.full → HappensServerStep w k j y (after w i y' ks' logs')
       go true is = (stepped.OutputFull, (r.e, r.has, subst (λ (b : Bool). StepsOpen y.core j.at_server r.e (if b then stepped.OutputFull else stepped.NeedBytes) y.core) (sym is) r.steps, same))

@@ -6,7 +6,7 @@ use Rattle.std.specs.List.{fold}
 use Rattle.ca_ids.specs.Table.{under}
 use Rattle.ca_queue.specs.declared.entry.SubKey.{SubKey}
 use Rattle.ca_text.specs.Place.{At}
-use Rattle.ca_text.proofs.Places.{some_is}
+use Rattle.ca_text.proofs.Places.{At-map, some_is}
 use Rattle.ca_model.specs.Due.{Action, Adds, Applies, Clears, Drops, Greets, Names, Nothing, Opens, Switches, Waits}
 use Rattle.ca_model.specs.History.{Step, Told}
 use Rattle.ca_model.specs.Server.{Server}
@@ -14,6 +14,7 @@ use Rattle.ca_model.specs.ServerSteps.{write_mask}
 use Rattle.ca_model.specs.ServerEvents.{ending, ends_at, ends_by, keys_concerned, numbers_posted, server_closed, with_number, write_numbers}
 use Rattle.ca_model.specs.World.{Joined}
 use Rattle.ca_world.specs.ServerStepping.{with_lists}
+use Rattle.ca_world_data.proofs.Worlds.{set-map}
 
 -- an end ends as well with other lists
 abbrev IsBlind : (d : List Told) (s : List Step) → (Joined → Option (List ℕ)) → Type 0
@@ -62,17 +63,6 @@ module _ (d : List Told) (s : List Step) where
   gone-lists ends blind (c ∷ ks) (suc k) j at zero = refl
   gone-lists ends blind (c ∷ ks) (suc k) j at (suc n) = gone-lists ends blind ks k j at n
 
--- the same of functions of circuits that are blind for them
-map-set : {A B : Type 0} (f : A → B) (xs : List A) (i : ℕ) (y : A) → map f (slice_set xs i y) ≡ slice_set (map f xs) i (f y)
-map-set f [] i y = refl
-map-set f (x ∷ xs) zero y = refl
-map-set f (x ∷ xs) (suc i) y = ap (λ (t : List _). f x ∷ t) (map-set f xs i y)
-
-at-map : {A B : Type 0} (f : A → B) (xs : List A) (i : ℕ) (x : A) → At xs i x → At (map f xs) i (f x)
-at-map f [] i x at = absurd cc
-at-map f (y ∷ xs) zero x at = ap (λ (z : _). Some (f z)) (some_is y x at)
-at-map f (y ∷ xs) (suc i) x at = at-map f xs i x at
-
 module _ (i : ℕ) (core : Server) (action : Action) (ks : List Joined) (k : ℕ) (j : Joined) (at : At ks k j) (d : List Told) (s : List Step) where
   abbrev writes : Joined → Joined
   writes = write_numbers i core action
@@ -82,7 +72,7 @@ module _ (i : ℕ) (core : Server) (action : Action) (ks : List Joined) (k : ℕ
 
   -- numbers that wait, on circuits of which one's lists are aside
   pub writes-aside : map writes aside ≡ slice_set (map writes ks) k (with_lists d s (writes j))
-  writes-aside = map-set writes ks k (with_lists d s j) ∙ ap (slice_set (map writes ks) k) (write-lists d s i core action j)
+  writes-aside = set-map writes ks k (with_lists d s j) ∙ ap (slice_set (map writes ks) k) (write-lists d s i core action j)
 
   pub gone-aside : ends_at (ends_by i core) (map writes aside) ≡ ends_at (ends_by i core) (map writes ks)
   gone-aside = (λ t n. each n t)
@@ -90,14 +80,9 @@ module _ (i : ℕ) (core : Server) (action : Action) (ks : List Joined) (k : ℕ
       each : (n : ℕ) → ends_at (ends_by i core) (map writes aside) n ≡ ends_at (ends_by i core) (map writes ks) n
       each n =
           ap (λ (cs : List Joined). ends_at (ends_by i core) cs n) writes-aside
-          ∙ gone-lists d s (ends_by i core) (λ c. refl) (map writes ks) k (writes j) (at-map writes ks k j at) n
+          ∙ gone-lists d s (ends_by i core) (λ c. refl) (map writes ks) k (writes j) (At-map writes ks k j at) n
 
   pub ending-aside : map (ending (ends_by i core)) (map writes aside) ≡ slice_set (map (ending (ends_by i core)) (map writes ks)) k (with_lists d s (ending (ends_by i core) (writes j)))
   ending-aside =
-      ap (map (ending (ends_by i core))) writes-aside ∙ map-set (ending (ends_by i core)) (map writes ks) k (with_lists d s (writes j))
+      ap (map (ending (ends_by i core))) writes-aside ∙ set-map (ending (ends_by i core)) (map writes ks) k (with_lists d s (writes j))
       ∙ ap (slice_set (map (ending (ends_by i core)) (map writes ks)) k) (ending-lists d s (ends_by i core) (writes j) refl)
-
--- What a message does to its circuit, the numbers that wait there and how it ends leave
--- these lists as they are.
-abbrev Lasts : Joined → Joined → Type 0
-Lasts j new = (new.lists.down ≡ j.lists.down) × (new.lists.handled ≡ j.lists.handled)

@@ -5,7 +5,7 @@ use Rattle.std.specs.Prelude.{filter, if◌then◌else◌, is_some, map, option_
 use Rattle.std.specs.List.{fold}
 use Rattle.ca_arena.specs.declared.handle.Handle.{Handle}
 use Rattle.ca_dbr.specs.Elements.{Elements}
-use Rattle.ca_ids.specs.Table.{Table, same_handle, under, with_changed, with_each}
+use Rattle.ca_ids.specs.Table.{Table, same_handle, under, with_changed}
 use Rattle.ca_model.proofs.Handles.{handle-or, not-same}
 use Rattle.ca_model.proofs.Placed.{under-other}
 use Rattle.ca_model.proofs.Tables.{changed-own}
@@ -19,33 +19,10 @@ use Rattle.ca_model.specs.ServerSteps.{Acts, Handles, HasEnd, Reaches, Records, 
 use Rattle.ca_model.specs.Speech.{Stored}
 use Rattle.ca_model.specs.ServerEvents.{ending, ends_at, ends_by, ends_here, keys_concerned, left_by, numbers_posted, server_closed, with_number, write_numbers}
 use Rattle.ca_model.specs.World.{Joined}
-use Rattle.ca_laws_parts.proofs.ServerFits.{each-changed}
-use Rattle.ca_laws_parts.proofs.Cores.{each-there}
 use Rattle.ca_world.proofs.EndsClosed.{ends-closed, freed-as}
-
--- ---- tables
-
-none-some : {A : Type 0} (x : A) → (let n : Option A = None in n ≡ Some x) → ⊥
-none-some x e = cc
-
-pub each-under : (f : Handle → ServerCircuit → ServerCircuit) (t : Table ServerCircuit) (h : Handle) → under (with_each f t) h ≡ option_map (f h) (under t h)
-each-under f t h = go (under t h) (under (with_each f t) h) refl refl
-  where
-    go : (a b : Option ServerCircuit) → under t h ≡ a → under (with_each f t) h ≡ b → under (with_each f t) h ≡ option_map (f h) (under t h)
-    go (Some c) b is there = each-there f t h c is ∙ sym (ap (option_map (f h)) is)
-    go None None is there = there ∙ sym (ap (option_map (f h)) is)
-    go None (Some d) is there = (let m = each-changed f t h d there in absurd (none-some m.0 (sym is ∙ m.1)))
+use Rattle.ca_world.proofs.Postings.{closed-fold, each-under}
 
 -- ---- one circuit
-
--- a circuit with numbers more ends as before
-pub ends-fold : (i : ℕ) (core : Server) (keys : List SubKey) (j : Joined) → ends_by i core (fold with_number j keys) ≡ ends_by i core j
-ends-fold i core [] j = refl
-ends-fold i core (key ∷ keys) j = ends-fold i core keys (with_number j key)
-
-pub closed-fold : (left : List ℕ) (keys : List SubKey) (j : Joined) → server_closed left (fold with_number j keys) ≡ server_closed left j
-closed-fold left [] j = refl
-closed-fold left (key ∷ keys) j = closed-fold left keys (with_number j key)
 
 -- an end ends as well with numbers more
 abbrev pub IsBlind : (Joined → Option (List ℕ)) → Type 0

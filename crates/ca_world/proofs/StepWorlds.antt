@@ -37,8 +37,8 @@ use Rattle.ca_world_data.specs.Indexed.{AreIndexed, server_numbers}
 use Rattle.ca_world_data.specs.Numbering.{AllAlike, IsAlike}
 use Rattle.ca_world_data.specs.Seen.{client_of, joined_of, record_of, server_of}
 use Rattle.ca_world_data.specs.ServerCuts.{IsServing}
-use Rattle.ca_world_data.proofs.Indexes.{KeepsEnds, ends-stay, indexed-circuit, indexed-map, indexed-same, numbers-set}
-use Rattle.ca_world_data.proofs.Worlds.{joins, one-at, set-map, set-same, world_of}
+use Rattle.ca_world_data.proofs.Indexes.{KeepsEnds, ends-stay, indexed-circuit, indexed-map, indexed-server}
+use Rattle.ca_world_data.proofs.Worlds.{joins, one-at, server-stays, set-map, world_of}
 use Rattle.ca_world_servers.specs.Parting.{AreBeside}
 use Rattle.ca_world.specs.Adding.{AreInOrder}
 use Rattle.ca_world.specs.ServerStepping.{LacksAs, Quits, StepsAt, circuits_acted, circuits_noted}
@@ -165,22 +165,12 @@ module _ (cs : List ClientSide) (ss : List ServerSide) (ks : List Joined) (cl : 
     abbrev there : HasServerEnd w k
     there = record { j = joined_of j; x = client_of x; y = server_of y; joins = joins cs ss ks cl sl m k j x y at client server; is_open = on }
 
-    stay : (y' : ServerSide) (ks' : List Joined) (sl' : List (List Entry)) → server_of y' ≡ server_of y → map joined_of ks' ≡ map joined_of ks → sl' ≡ sl → world_of cs (slice_set ss j.server y') ks' cl sl' m ≡ w
-    stay y' ks' sl' is_y is_k is_l = λ t. record {
-      clients = map client_of cs;
-      servers = (set-map server_of ss j.server y' ∙ ap (slice_set (map server_of ss) j.server) is_y ∙ set-same (map server_of ss) j.server (server_of y) (At-map server_of ss j.server y server)) t;
-      circuits = is_k t;
-      client_logs = cl;
-      server_logs = is_l t;
-      moment = m;
-    }
-
     step-there : (y' : ServerSide) (ks' : List Joined) (sl' : List (List Entry)) (r : Result (Unit {0}) Refusal) → StepsOrRests k y (map joined_of ks) sl r y' (map joined_of ks') sl'
         → Does w (ServerStep k) r (world_of cs (slice_set ss j.server y') ks' cl sl' m)
     step-there y' ks' sl' (Ok u) (same, steps) =
         let did = step-happens w k (joined_of j) (server_of y) (At-map server_of ss j.server y server) (server_of y') (map joined_of ks') sl' (steps (joined_of j) (At-map joined_of ks k j at)) in
         (there, subst (λ (ys : List model.ServerSide). HappensServerStep w k (joined_of j) (server_of y) (record w { servers = ys; circuits = map joined_of ks'; server_logs = sl' })) (sym (set-map server_of ss j.server y')) did)
-    step-there y' ks' sl' (Err OutOfMemory) (may, (is_y, numbers, is_k, is_l)) = ((there, may (joined_of j) (At-map joined_of ks k j at)), stay y' ks' sl' is_y is_k is_l)
+    step-there y' ks' sl' (Err OutOfMemory) (may, (is_y, numbers, is_k, is_l)) = ((there, may (joined_of j) (At-map joined_of ks k j at)), server-stays cs ss ks ks' cl sl sl' m j.server y y' server is_y is_k is_l)
     step-there y' ks' sl' (Err _) d = absurd d.1
 
 -- ---- by the ends that were found
@@ -224,10 +214,8 @@ module _ (cs : List ClientSide) (ss : List ServerSide) (ks : List Joined) (cl : 
       → AreIndexed numbers (server_numbers ss) (map joined_of ks) → AreIndexed numbers (server_numbers (slice_set ss e.server y')) (map joined_of ks')
   step-indexed numbers y y' ks' sl' (Ok u) server (same, steps) h =
       let at : At (map joined_of ks) k (joined_of a.j) = At-map joined_of ks k a.j a.at in
-      indexed-same numbers numbers (server_numbers ss) (server_numbers (slice_set ss e.server y')) (map joined_of ks') (map joined_of ks') refl
-      (numbers-set (λ (z : ServerSide). z.circuits.items) ss e.server y y' server same)
-      refl
+      indexed-server numbers ss e.server y y' (map joined_of ks') (map joined_of ks') server same refl
       (steps-indexed numbers (server_numbers ss) k (joined_of a.j) (server_of y) (map joined_of ks) sl at h (server_of y') (map joined_of ks') sl' (steps (joined_of a.j) at))
   step-indexed numbers y y' ks' sl' (Err OutOfMemory) server (may, (is_y, same, is_k, is_l)) h =
-      indexed-same numbers numbers (server_numbers ss) (server_numbers (slice_set ss e.server y')) (map joined_of ks) (map joined_of ks') refl (numbers-set (λ (z : ServerSide). z.circuits.items) ss e.server y y' server same) is_k h
+      indexed-server numbers ss e.server y y' (map joined_of ks) (map joined_of ks') server same is_k h
   step-indexed numbers y y' ks' sl' (Err _) server d h = absurd d.1

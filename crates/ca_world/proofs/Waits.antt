@@ -1,12 +1,11 @@
 -- Bytes that wait on a world's circuits, by the ends that were found.
-use Rattle.std.proofs.Common.{◌≡◌, ℕ, ◌<◌, true, List, inl, inr, length, map, sym, ap, subst, ◌∙◌, arith}
+use Rattle.std.proofs.Common.{◌≡◌, ℕ, true, List, inl, inr, length, sym, ap, subst, ◌∙◌}
 use Rattle.std.specs.Prelude.{◌↔◌, IsTrue}
-use Rattle.std.proofs.lemmas.List.{length-map}
 use Rattle.ca_text.specs.Place.{At}
-use Rattle.ca_text.proofs.Places.{At-map, At-one, At-within}
+use Rattle.ca_text.proofs.Places.{At-one}
 use Rattle.ca_model.specs.History.{Entry, Line}
 use Rattle.ca_model.specs.ClientEvents.{waiting_down, waiting_up}
-use Rattle.ca_model.specs.Runs.{HasClientEnd, HasServerEnd, IsServer}
+use Rattle.ca_model.specs.Runs.{HasClientEnd, HasServerEnd}
 use Rattle.ca_model.specs.World as model
 use Rattle.ca_world.specs.declared.circuits.Way.{Way}
 use Rattle.ca_world.specs.declared.circuits.Way.TheVariants.{Down, Up}
@@ -22,13 +21,6 @@ use Rattle.ca_world_data.proofs.Worlds.{ends-client, ends-server, joins, none-jo
 module _ (cs : List ClientSide) (ss : List ServerSide) (ks : List Joined) (cl : List (List Line)) (sl : List (List Entry)) (m k : ℕ) where
   abbrev w : model.World
   w = world_of cs ss ks cl sl m
-
-  -- a server of this number
-  pub server-here : (i : ℕ) → i < length ss → IsServer w i
-  server-here i lt = (let one = one-at ss i lt in record { y = server_of one.0; at = At-map server_of ss i one.0 one.1 })
-
-  pub server-within : (i : ℕ) → IsServer w i → i < length ss
-  server-within i is = (let within = At-within (map server_of ss) i is.y is.at in omega (arith, within, length-map ss server_of))
 
   -- no circuit
   pub none-waits : NoEnds (length cs) (length ss) ks k → IsNoCircuit w k

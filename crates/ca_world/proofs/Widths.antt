@@ -1,20 +1,15 @@
 -- Numbers that no message carries are none that one does.
-use Rattle.std.proofs.Common.{◌≡◌, ◌≢◌, ℕ, ◌<◌, ◌≤◌, inl, inr, true, List, [], None, Result, Ok, Err, ap, arith, is_some, refl, subst, sym}
+use Rattle.std.proofs.Common.{◌≡◌, ◌≢◌, ℕ, ◌<◌, inl, inr, List, [], Result, Ok, Err, arith, refl, subst, sym}
 use Rattle.ca_text.specs.Name.{IsName}
-use Rattle.ca_text.specs.Limits.{channel_name_limit, element_limit, priority_limit, record_name_limit}
+use Rattle.ca_text.specs.Limits.{channel_name_limit, priority_limit}
 use Rattle.ca_text.specs.declared.refusal.Refusal.{Refusal}
 use Rattle.ca_text.specs.declared.refusal.Refusal.TheVariants as refusal
 use Rattle.ca_model.specs.Client.{Client}
 use Rattle.ca_model.specs.ClientCalls.{ClientOpens, Opening, Shape}
-use Rattle.ca_model.specs.History.{Entry, Line}
-use Rattle.ca_model.specs.Server.{Server}
-use Rattle.ca_model.specs.ServerCalls.{AddsRecord}
-use Rattle.ca_records.specs.Puts.{record_named}
-use Rattle.ca_records.specs.Record.{RecordState}
-use Rattle.ca_model.specs.World.{ClientSide, ServerSide}
+use Rattle.ca_model.specs.History.{Line}
+use Rattle.ca_model.specs.World.{ClientSide}
 use Rattle.ca_world_data.specs.Opens.{OpensOn}
-use Rattle.ca_world.specs.Adding.{AddsAt}
-use Rattle.ca_world.specs.Wide.{IsCount, IsPriority, IsWide}
+use Rattle.ca_world.specs.Wide.{IsPriority, IsWide}
 
 pub not-wide : (a : Shape) → IsWide a → a.data_type < 65536 → a.count < 4294967296 → ⊥
 not-wide a (inl wide) t n = absurd (omega (arith, wide, t))
@@ -42,22 +37,3 @@ opens-wide name now p own (inr over) x x' logs logs' (Ok u) (inl r) =
 opens-wide name now p own (inr over) x x' logs logs' (Ok u) (inr d) = (let few = d.opens.0.1 in absurd (omega (arith, few, over.1)))
 opens-wide name now p own (inr over) x x' logs logs' (Err refusal.OutOfMemory) d = d
 opens-wide name now p own (inr over) x x' logs logs' (Err _) d = absurd d
-
--- a record of a count that is too great is refused as one of any such
-wide-added : (y core : Server) (s t : RecordState) (n : ℕ) (e : Refusal) → t ≡ record s { count = t.count } → element_limit < s.count → element_limit < t.count → e ≢ refusal.OutOfMemory → AddsRecord y t n (Err e) core → AddsRecord y s n (Err e) core
-wide-added y core s t n refusal.NameLength is over more other r = (λ named. r.0 (subst (IsName record_name_limit) (sym (ap (λ (z : RecordState). z.name) is)) named), r.1)
-wide-added y core s t n refusal.RecordExists is over more other r =
-    (subst (λ (name : List ℕ). IsName record_name_limit name × (is_some (record_named y.records name) ≡ true)) (ap (λ (z : RecordState). z.name) is) r.0, r.1)
-wide-added y core s t n refusal.BadCount is over more other r =
-    ((subst (IsName record_name_limit) (ap (λ (z : RecordState). z.name) is) r.0.0, subst (λ (name : List ℕ). record_named y.records name ≡ None) (ap (λ (z : RecordState). z.name) is) r.0.1, λ holds. (let few = holds.limit in absurd (omega (arith, over, few)))), r.1)
-wide-added y core s t n refusal.OutOfMemory is over more other r = absurd (other refl)
-wide-added y core s t n e is over more other r = absurd r.0
-
--- a record with another count that is too great leaves the same
-pub adds-wide : (s : RecordState) (own : ℕ) → IsCount s.count own → (y y' : ServerSide) (logs logs' : List (List Entry)) (r : Result (Unit {0}) Refusal) → AddsAt (record s { count = own }) y logs r y' logs' → AddsAt s y logs r y' logs'
-adds-wide s own (inl is) y y' logs logs' r d = subst (λ (n : ℕ). AddsAt (record s { count = n }) y logs r y' logs') is d
-adds-wide s own (inr over) y y' logs logs' (Ok u) (core, n, inl (adds, is_y, is_l)) = (let few = adds.0.2.limit in absurd (omega (arith, few, over.1)))
-adds-wide s own (inr over) y y' logs logs' (Ok u) (core, n, inr (e, other, adds, is_y, is_l)) =
-    (core, n, inr (e, other, wide-added y.core core s (record s { count = own }) n e refl over.0 over.1 other adds, is_y, is_l))
-adds-wide s own (inr over) y y' logs logs' (Err refusal.OutOfMemory) d = d
-adds-wide s own (inr over) y y' logs logs' (Err _) d = absurd d

@@ -1,6 +1,7 @@
 -- Working: a record is added at a server, as what becomes of the server and of the logs.
 use Rattle.std.specs.Prelude.{ℕ, ◌≡◌, ◌≢◌, ◌≤◌, ◌⊎◌, ◌+◌, ◌++◌, List, [], ◌∷◌, Ok, Err, Result}
 use Rattle.std.specs.Prelude.{drop, length, map, take}
+use Rattle.ca_records.specs.Calls.{MayAdd}
 use Rattle.ca_records.specs.Puts.{Record}
 use Rattle.ca_records.specs.Record.{RecordState}
 use Rattle.ca_text.specs.declared.refusal.Refusal.{Refusal}
@@ -33,7 +34,8 @@ pub record StandsBehind (n : ℕ) (cs : List Record) (rs : List RecordSide)
   pub like : AreLike old rs
   pub apart : AreNamedApart cs
 
--- The record is there, with the next number; or the core refuses it, and nothing changes.
+-- The record is there, with the next number; or the core refuses it, and nothing changes. Only one
+-- that the core takes lacks memory.
 abbrev pub AddsAt : RecordState → ServerSide → List (List Entry) → Result (Unit {0}) Refusal
     → ServerSide → List (List Entry) → Type 0
 AddsAt s y logs (Ok _) y' logs' =
@@ -47,11 +49,6 @@ AddsAt s y logs (Ok _) y' logs' =
     × (logs' ≡ grown y.life (entry.Added y.added s ∷ []) logs))
     ⊎ ((e : Refusal) × (e ≢ OutOfMemory) × AddsRecord y.core s behind (Err e) core × (y' ≡ y)
     × (logs' ≡ logs)))
-AddsAt s y logs (Err OutOfMemory) y' logs' = (y' ≡ y) × (logs' ≡ logs)
+AddsAt s y logs (Err OutOfMemory) y' logs' =
+    MayAdd y.core.records s × (y' ≡ y) × (logs' ≡ logs)
 AddsAt s y logs (Err _) y' logs' = ⊥
-
--- the core lacked memory, or refused
-abbrev pub Settles : Refusal → Result (Unit {0}) Refusal → Type 0
-Settles e (Ok _) = e ≢ OutOfMemory
-Settles e (Err OutOfMemory) = e ≡ OutOfMemory
-Settles e (Err _) = ⊥

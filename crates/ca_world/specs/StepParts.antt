@@ -30,7 +30,7 @@ use Rattle.ca_world_data.specs.Updates.{AreGood}
 use Rattle.ca_world_servers.specs.declared.ahead.Ahead.{Ahead}
 use Rattle.ca_world_servers.specs.declared.coming.Coming.{Coming}
 use Rattle.ca_world_servers.specs.Effects.{AreApart, IsAhead, TellsMessage, TellsWrite}
-use Rattle.ca_world_servers.specs.EndsWith.{ReportsWith}
+use Rattle.ca_world_data.specs.EndsWith.{ReportsWith}
 use Rattle.ca_world_servers.specs.Handling.{HasRoomToBegin, HasRoomToNote, with_handled}
 use Rattle.ca_world_servers.specs.Losing.{AreSeated}
 use Rattle.ca_world_servers.specs.Parting.{AreBeside}

@@ -1,27 +1,16 @@
--- Vocabulary: what handing a moment to a world gives; and, working, what it leaves of
--- clients, logs and circuits.
-use Rattle.std.specs.Prelude.{ℕ, ◌≡◌, List, [], Ok, Err, Result, length}
+-- Working: what handing a moment to a world leaves of clients, logs and circuits.
+use Rattle.std.specs.Prelude.{ℕ, List, [], Ok, Err, Result, length}
 use Rattle.std.specs.declared.alloc.AllocError.{AllocError}
 use Rattle.ca_text.specs.declared.refusal.Refusal.TheVariants.{OutOfMemory}
 use Rattle.ca_text.specs.Place.{At}
 use Rattle.ca_model.specs.ClientEnds.{ClientTicks}
 use Rattle.ca_model.specs.History.{Entry, Line}
-use Rattle.ca_model.specs.Events.{Tick}
-use Rattle.ca_model.specs.Runs.{CanBe, Happens, TicksAll, TicksBefore, clients_below}
+use Rattle.ca_model.specs.Runs.{TicksAll, clients_below}
 use Rattle.ca_model.specs.World as model
 use Rattle.ca_model.specs.World.{World}
-use Rattle.ca_world.specs.declared.tick.AfterTick.{AfterTick}
-use Rattle.ca_world.specs.declared.tick.AfterTick.TheVariants.{Back, Done, Stopped}
 use Rattle.ca_world_data.specs.declared.client.ClientSide.{ClientSide}
 use Rattle.ca_world_data.specs.Found.{AreNumbered}
 use Rattle.ca_world_data.specs.Ticks.{TellsFew}
-
--- All clients had the moment; or it goes back, and nothing changed; or some had it, and the next
--- one had no memory for it.
-abbrev pub Ticks : World → (moment : ℕ) → AfterTick → Type 0
-Ticks old moment (Done new) = Happens old (Tick moment) new
-Ticks old moment (Back new) = (CanBe old (Tick moment) → ⊥) × (new ≡ old)
-Ticks old moment (Stopped new) = TicksBefore moment old new
 
 -- a world of these clients, logs and circuits
 abbrev pub world_with : List model.ClientSide → List model.ServerSide → List model.Joined

@@ -3,17 +3,20 @@
 ghost use Rattle.std.specs.Prelude.{ℕ, ◌≡◌, ◌<◌, ◌≤◌, IfOk, None, [], insert, length, map};
 ghost use Rattle.std.specs.Prelude.{vec_capacity, vec_len};
 ghost use Rattle.ca_dbr.specs.Elements.{elements};
+ghost use Rattle.ca_events.specs.Events.{record_of as of_addition};
 ghost use Rattle.ca_records.specs.Record.{unset};
 ghost use Rattle.ca_model.specs.Events as event;
-ghost use Rattle.ca_world.specs.Adding.{AddsAt, AreInOrder, Settles, StandsBehind};
+ghost use Rattle.ca_world.specs.Adding.{AddsAt, AreInOrder, StandsBehind};
 ghost use Rattle.ca_world.specs.Counted.{HasEntries};
 ghost use Rattle.ca_world_data.specs.Does.{Does};
 ghost use Rattle.ca_world_data.specs.Opening.{entries_in};
 ghost use Rattle.ca_world_data.specs.Seen.{record_of, server_of};
 
+use crate::judging::takes_record;
 use crate::wide::count_of;
 use crate::world::World;
 use ca_dbr::{Meta, Value};
+use ca_events::Addition;
 use ca_server_core::ServerCore;
 use ca_server_core::for_histories::comes_before;
 use ca_text::Refusal;
@@ -26,46 +29,32 @@ use std::alloc::{AllocError, Global};
 impl World {
     /// A record is added to those of a server, with a number that none of this life had. What the
     /// server refuses changes nothing.
-    pub fn add(
-        &mut self,
-        server: usize,
-        name: &[u8],
-        count: u64,
-        slow: bool,
-        value: Value,
-    ) -> Result<(), Refusal>
+    pub fn add(&mut self, addition: &Addition) -> Result<(), Refusal>
         ensures { Does
             self.old
-            (event.Add server (record {
-              name = name.now;
-              count = count;
-              slow = slow;
-              value = elements value;
-              meta = unset;
-            }))
+            (event.Add addition.now.server (of_addition addition.now))
             result
             self.new }
     {
-        value.know();
+        addition.value.know();
+        let server = addition.server as usize;
         if server >= self.servers.len() {
             return Err(Refusal::BadEvent);
-        }
-        if !self.may_add(server, name, count, &value) {
-            return Ok(());
         }
         add_at(
             self.alloc,
             &mut self.servers[server],
             &mut self.server_logs,
-            name,
-            count,
-            slow,
-            value,
+            &addition.name,
+            addition.count,
+            addition.slow,
+            &addition.value,
         )
     }
 }
 
-// A record is added to those of this server. What its core refuses changes nothing.
+// A record is added to those of this server. What its core refuses changes nothing, and takes no
+// memory.
 fn add_at(
     alloc: Global,
     side: &mut ServerSide,
@@ -73,7 +62,7 @@ fn add_at(
     name: &[u8],
     count: u64,
     slow: bool,
-    value: Value,
+    value: &Value,
 ) -> Result<(), Refusal>
     requires order { AreInOrder side.old.core.records (map record_of side.old.records.items) }
     requires counted { HasEntries (server_of side.old) (entries_in logs.old.items) }
@@ -82,7 +71,7 @@ fn add_at(
           name = name.now;
           count = count;
           slow = slow;
-          value = elements value;
+          value = elements value.now;
           meta = unset;
         })
         (server_of side.old)
@@ -92,47 +81,22 @@ fn add_at(
         (entries_in logs.new.items) }
     ensures kept { side.new.circuits.items ≡ side.old.circuits.items }
 {
-    add_counted(alloc, side, logs, name, count_of(count), slow, value)
-}
-
-// A record with a count that the core takes is added to those of this server.
-fn add_counted(
-    alloc: Global,
-    side: &mut ServerSide,
-    logs: &mut Vec<Vec<LogEntry>>,
-    name: &[u8],
-    count: u32,
-    slow: bool,
-    value: Value,
-) -> Result<(), Refusal>
-    requires order { AreInOrder side.old.core.records (map record_of side.old.records.items) }
-    requires counted { HasEntries (server_of side.old) (entries_in logs.old.items) }
-    ensures adds { AddsAt
-        (record {
-          name = name.now;
-          count = count;
-          slow = slow;
-          value = elements value;
-          meta = unset;
-        })
-        (server_of side.old)
-        (entries_in logs.old.items)
-        result
-        (server_of side.new)
-        (entries_in logs.new.items) }
-    ensures kept { side.new.circuits.items ≡ side.old.circuits.items }
-{
+    if !takes_record(&side.core, name, count, value) {
+        return Ok(());
+    }
+    let carried = count_of(count);
     let told = Recorded {
         name: Vec::from_slice(alloc, name)?,
-        count,
+        count: carried,
         slow,
-        value: value_again(alloc, &value)?,
+        value: value_again(alloc, value)?,
         meta: Meta::ZERO,
     };
+    let given = value_again(alloc, value)?;
     let begun = begin_record(alloc, name, side.added)?;
     side.records.reserve(1)?;
     reserve_entries(logs, side.life, 1)?;
-    match side.core.add_record(name, count, slow, value) {
+    match side.core.add_record(name, carried, slow, given) {
         Ok(()) => {
             let number = side.added;
             let behind = count_before(&side.core, &side.records, name);
@@ -141,17 +105,7 @@ fn add_counted(
             push_entry(logs, side.life, LogEntry::Added(number, told));
             Ok(())
         }
-        Err(refusal) => settle(refusal),
-    }
-}
-
-// What the event is to which a server answered so. Being out of memory is no refusal of a server.
-fn settle(refusal: Refusal) -> Result<(), Refusal>
-    ensures { Settles refusal result }
-{
-    match refusal {
-        Refusal::OutOfMemory => Err(Refusal::OutOfMemory),
-        _ => Ok(()),
+        Err(_) => Err(Refusal::OutOfMemory),
     }
 }
 

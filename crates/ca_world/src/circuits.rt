@@ -51,13 +51,8 @@ impl Stopped {
     pub fn receives(&self, circuit: u64, way: Way) -> bool
         ensures { IsTrue result ↔ Receives self.now circuit way }
     {
-        let found = ends_at(
-            self.clients.len(),
-            self.servers.len(),
-            &self.circuits,
-            circuit as usize,
-        );
-        let Some(ends) = found else {
+        let place = circuit as usize;
+        let Some(ends) = ends_at(&self.clients, &self.servers, &self.circuits, place) else {
             return false;
         };
         match way {
@@ -82,8 +77,7 @@ fn count(
         result }
 {
     let place = circuit as usize;
-    let found = ends_at(clients.len(), servers.len(), circuits, place);
-    let Some(ends) = found else {
+    let Some(ends) = ends_at(clients, servers, circuits, place) else {
         return 0;
     };
     let joined = &circuits[place];

@@ -15,7 +15,7 @@ use ca_text::Refusal;
 use ca_wire::{Cid, Sid, clear_request};
 use ca_world_data::clearing::prepare_clear;
 use ca_world_data::client::ClientSide;
-use ca_world_data::history::{Ask, Intent, Line, Sent, Wish};
+use ca_world_data::history::{Ask, Intent, Line, Wish};
 use ca_world_data::joined::Joined;
 use ca_world_data::logs::note;
 use ca_world_data::telling::tell_call;
@@ -72,14 +72,7 @@ fn clear_on(
             let meant = Intent::On(channel, Ask::Clear);
             let cid = Cid::new(WireId::of(handle).number());
             let message = clear_request(alloc, Sid::new(way.sid), cid);
-            push_sent(
-                circuits,
-                way.circuit,
-                Sent {
-                    message,
-                    intent: meant,
-                },
-            );
+            push_sent(circuits, way.circuit, message, meant);
             tell_call(
                 logs,
                 side.life,

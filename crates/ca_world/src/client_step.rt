@@ -28,13 +28,7 @@ impl World {
     pub fn client_step(&mut self, circuit: usize) -> Result<(), Refusal>
         ensures { Does self.old (event.ClientStep circuit) result self.new }
     {
-        let found = ends_at(
-            self.clients.len(),
-            self.servers.len(),
-            &self.circuits,
-            circuit,
-        );
-        let Some(ends) = found else {
+        let Some(ends) = ends_at(&self.clients, &self.servers, &self.circuits, circuit) else {
             return Err(Refusal::BadEvent);
         };
         if !ends.client_open {

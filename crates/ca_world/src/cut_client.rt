@@ -13,7 +13,7 @@ use ca_text::Refusal;
 use ca_world_data::client::ClientSide;
 use ca_world_data::closing::close_client;
 use ca_world_data::ends::ends_at;
-use ca_world_data::history::{Intent, Line};
+use ca_world_data::history::Line;
 use ca_world_data::joined::Joined;
 use ca_world_data::logs::reserve_lines;
 use ca_world_data::telling::tell_all;
@@ -23,13 +23,7 @@ impl World {
     pub fn cut_client(&mut self, circuit: usize) -> Result<(), Refusal>
         ensures { Does self.old (event.CutClient circuit) result self.new }
     {
-        let found = ends_at(
-            self.clients.len(),
-            self.servers.len(),
-            &self.circuits,
-            circuit,
-        );
-        let Some(ends) = found else {
+        let Some(ends) = ends_at(&self.clients, &self.servers, &self.circuits, circuit) else {
             return Err(Refusal::BadEvent);
         };
         if !ends.client_open {
@@ -65,13 +59,7 @@ fn cut_at(
     let few = side.names.requests.len() + side.names.channels.len();
     reserve_lines(logs, side.life, few)?;
     let closing = side.core.cut(joined.at_client);
-    tell_all(
-        logs,
-        side.life,
-        Intent::OfCircuit,
-        &side.names,
-        closing.notices,
-    );
+    tell_all(logs, side.life, &side.names, closing.notices);
     close_client(joined, closing.left);
     Ok(())
 }

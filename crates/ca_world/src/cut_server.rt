@@ -27,13 +27,7 @@ impl World {
     pub fn cut_server(&mut self, circuit: usize) -> Result<(), Refusal>
         ensures { Does self.old (event.CutServer circuit) result self.new }
     {
-        let found = ends_at(
-            self.clients.len(),
-            self.servers.len(),
-            &self.circuits,
-            circuit,
-        );
-        let Some(ends) = found else {
+        let Some(ends) = ends_at(&self.clients, &self.servers, &self.circuits, circuit) else {
             return Err(Refusal::BadEvent);
         };
         if !ends.server_open {

@@ -25,13 +25,7 @@ impl World {
     pub fn down(&mut self, circuit: usize, n: usize) -> Result<(), Refusal>
         ensures { Does self.old (event.Down circuit n) result self.new }
     {
-        let found = ends_at(
-            self.clients.len(),
-            self.servers.len(),
-            &self.circuits,
-            circuit,
-        );
-        let Some(ends) = found else {
+        let Some(ends) = ends_at(&self.clients, &self.servers, &self.circuits, circuit) else {
             return Err(Refusal::BadEvent);
         };
         if !ends.client_open {

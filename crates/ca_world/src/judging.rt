@@ -1,73 +1,20 @@
 //! What a server refuses of a removal, a post or a new record whatever memory there is. Such an
 //! event takes none, since nothing changes.
-ghost use Rattle.std.specs.Prelude.{ℕ, ◌≡◌, ◌<◌, ◌≤◌, ◌≢◌, ◌⊎◌, Bool, false, is_some, true};
+ghost use Rattle.std.specs.Prelude.{◌≡◌, ◌<◌, ◌≤◌, ◌≢◌, ◌⊎◌, Bool, false, is_some, true};
 ghost use Rattle.ca_dbr.specs.Elements.{base_of, count_of, elements};
 ghost use Rattle.ca_records.specs.Puts.{record_named};
 ghost use Rattle.ca_records.specs.Record.{HoldsValue, unset};
 ghost use Rattle.ca_text.specs.Limits.{record_name_limit};
 ghost use Rattle.ca_text.specs.Name.{IsName};
-ghost use Rattle.ca_model.specs.Events as event;
-ghost use Rattle.ca_model.specs.Runs.{Happens, IsServer};
 ghost use Rattle.ca_world.specs.Judging.{JudgesAdd, JudgesPost};
-ghost use Rattle.ca_world_data.specs.Does.{MayLack};
 
-use crate::world::World;
 use ca_dbr::Value;
 use ca_records::Record;
 use ca_server_core::ServerCore;
 use ca_text::{ELEMENT_LIMIT, RecordName};
 
-impl World {
-    /// Whether this server has the record that is to be removed. Else the removal changes nothing.
-    pub(crate) fn may_remove(&self, server: usize, name: &[u8]) -> bool
-        requires { IsServer self.now server }
-        ensures takes { result ≡ true → MayLack self.now (event.Remove server name.now) }
-        ensures refuses { result ≡ false
-            → Happens self.now (event.Remove server name.now) self.now }
-    {
-        takes_removal(&self.servers[server].core, name)
-    }
-
-    /// Whether this server takes the post of a value. Else the post changes nothing.
-    pub(crate) fn may_post(&self, server: usize, name: &[u8], value: &Value) -> bool
-        requires { IsServer self.now server }
-        ensures takes { (mask : ℕ) → result ≡ true
-            → MayLack self.now (event.Post server name.now (elements value.now) mask) }
-        ensures refuses { (mask : ℕ) → result ≡ false
-            → Happens
-            self.now
-            (event.Post server name.now (elements value.now) mask)
-            self.now }
-    {
-        takes_post(&self.servers[server].core, name, value)
-    }
-
-    /// Whether this server takes a new record. Else nothing changes.
-    pub(crate) fn may_add(&self, server: usize, name: &[u8], count: u64, value: &Value) -> bool
-        requires { IsServer self.now server }
-        ensures takes { (slow : Bool) → result ≡ true
-            → MayLack self.now (event.Add server (record {
-              name = name.now;
-              count = count;
-              slow = slow;
-              value = elements value.now;
-              meta = unset;
-            })) }
-        ensures refuses { (slow : Bool) → result ≡ false
-            → Happens self.now (event.Add server (record {
-              name = name.now;
-              count = count;
-              slow = slow;
-              value = elements value.now;
-              meta = unset;
-            })) self.now }
-    {
-        takes_record(&self.servers[server].core, name, count, value)
-    }
-}
-
-// Whether the server has the record of this name.
-fn takes_removal(core: &ServerCore, name: &[u8]) -> bool
+/// Whether the server has the record of this name.
+pub(crate) fn takes_removal(core: &ServerCore, name: &[u8]) -> bool
     ensures { result ≡ is_some (record_named core.now.records name.now) }
 {
     match core.record(name) {
@@ -76,8 +23,8 @@ fn takes_removal(core: &ServerCore, name: &[u8]) -> bool
     }
 }
 
-// Whether the server takes the post of a value.
-fn takes_post(core: &ServerCore, name: &[u8], value: &Value) -> bool
+/// Whether the server takes the post of a value.
+pub(crate) fn takes_post(core: &ServerCore, name: &[u8], value: &Value) -> bool
     ensures { JudgesPost core.now.records name.now (elements value.now) result }
 {
     match core.record(name) {
@@ -109,8 +56,8 @@ fn may_have(kept: &Record, value: &Value) -> bool
     true
 }
 
-// Whether the server takes a new record.
-fn takes_record(core: &ServerCore, name: &[u8], count: u64, value: &Value) -> bool
+/// Whether the server takes a new record.
+pub(crate) fn takes_record(core: &ServerCore, name: &[u8], count: u64, value: &Value) -> bool
     ensures { (slow : Bool)
         → JudgesAdd core.now.records (record {
           name = name.now;

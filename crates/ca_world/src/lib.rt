@@ -48,5 +48,4 @@ pub use config::Config;
 pub use running::{Progress, Ran, run, run_telling};
 pub use step::AfterEvent;
 pub use stopped::Stopped;
-pub use tick::AfterTick;
 pub use world::World;

@@ -12,9 +12,11 @@ ghost use Rattle.ca_world_data.specs.Reporting.{AreServed, waits};
 ghost use Rattle.ca_world_data.specs.Seen.{joined_of, stored_of};
 ghost use Rattle.ca_world_data.specs.ServerCuts.{HasRoomFor};
 
+use crate::judging::takes_post;
 use crate::world::World;
 use ca_dbr::{Meta, Value};
-use ca_text::{Mask, Refusal};
+use ca_events::Posting;
+use ca_text::Refusal;
 use ca_world_data::entries::push_entry;
 use ca_world_data::history::{LogEntry, Stored};
 use ca_world_data::joined::Joined;
@@ -27,25 +29,21 @@ use std::alloc::Global;
 impl World {
     /// A value is posted to a record of a server, with a mask. A post that the server
     /// refuses changes nothing.
-    pub fn post(
-        &mut self,
-        server: usize,
-        name: &[u8],
-        value: Value,
-        mask: Mask,
-    ) -> Result<(), Refusal>
+    pub fn post(&mut self, posting: &Posting) -> Result<(), Refusal>
         ensures { Does
             self.old
-            (event.Post server name.now (elements value) mask)
+            (event.Post
+            posting.now.server
+            posting.now.name.items
+            (elements posting.now.value)
+            posting.now.mask)
             result
             self.new }
     {
-        value.know();
+        posting.value.know();
+        let server = posting.server as usize;
         if server >= self.servers.len() {
             return Err(Refusal::BadEvent);
-        }
-        if !self.may_post(server, name, &value) {
-            return Ok(());
         }
         post_at(
             self.alloc,
@@ -53,14 +51,15 @@ impl World {
             &mut self.servers[server],
             &mut self.circuits,
             &mut self.server_logs,
-            name,
-            value,
-            mask.bits(),
+            &posting.name,
+            &posting.value,
+            posting.mask.bits(),
         )
     }
 }
 
-// A value is posted at this server. A post that its core refuses changes nothing.
+// A value is posted at this server. A post that its core refuses changes nothing, and takes no
+// memory.
 fn post_at(
     alloc: Global,
     server: usize,
@@ -68,7 +67,7 @@ fn post_at(
     circuits: &mut Vec<Joined>,
     logs: &mut Vec<Vec<LogEntry>>,
     name: &[u8],
-    value: Value,
+    value: &Value,
     mask: u16,
 ) -> Result<(), Refusal>
     requires served { AreServed
@@ -79,7 +78,7 @@ fn post_at(
     ensures { PostsAt
         server
         name.now
-        (record { value = elements value; meta = unset })
+        (record { value = elements value.now; meta = unset })
         mask
         side.old
         (map joined_of circuits.old.items)
@@ -89,10 +88,14 @@ fn post_at(
         (map joined_of circuits.new.items)
         (entries_in logs.new.items) }
 {
-    let value_told = value_again(alloc, &value)?;
+    if !takes_post(&side.core, name, value) {
+        return Ok(());
+    }
+    let given = value_again(alloc, value)?;
+    let value_told = value_again(alloc, value)?;
     check_counts(circuits)?;
     reserve_reports(logs, side.life, &side.records, 1)?;
-    match side.core.post(name, value, Meta::ZERO, mask) {
+    match side.core.post(name, given, Meta::ZERO, mask) {
         Ok(()) => {
             let told = Stored {
                 value: value_told,

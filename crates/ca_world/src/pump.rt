@@ -1,6 +1,6 @@
 //! Updates leave the queues of a server's end. Which they were is read back from the bytes that
 //! came to its output, into memory that was made before.
-ghost use Rattle.std.specs.Prelude.{◌≡◌, map};
+ghost use Rattle.std.specs.Prelude.{map};
 ghost use Rattle.ca_model.specs.Events as event;
 ghost use Rattle.ca_world.specs.ServerPumps.{PumpsServer, PumpsUntil, UpdatesFit};
 ghost use Rattle.ca_world_data.specs.Does.{Does};
@@ -32,13 +32,7 @@ impl World {
     pub fn pump(&mut self, circuit: usize) -> Result<(), Refusal>
         ensures { Does self.old (event.Pump circuit) result self.new }
     {
-        let found = ends_at(
-            self.clients.len(),
-            self.servers.len(),
-            &self.circuits,
-            circuit,
-        );
-        let Some(ends) = found else {
+        let Some(ends) = ends_at(&self.clients, &self.servers, &self.circuits, circuit) else {
             return Err(Refusal::BadEvent);
         };
         if !ends.server_open {

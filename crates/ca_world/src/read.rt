@@ -15,7 +15,7 @@ use crate::world::World;
 use ca_text::Refusal;
 use ca_wire::read_request;
 use ca_world_data::client::ClientSide;
-use ca_world_data::history::{Ask, Intent, Kind, Line, Sent, Wish};
+use ca_world_data::history::{Ask, Intent, Kind, Line, Wish};
 use ca_world_data::joined::Joined;
 use ca_world_data::logs::{note, push_line};
 use ca_world_data::way::{prepare, push_sent, wanted_on};
@@ -75,61 +75,22 @@ fn read_on(
         (map joined_of circuits.new.items) }
     ensures kept { side.new.circuits.items ≡ side.old.circuits.items }
 {
-    match carried(data_type, count) {
-        Some((data_type, count)) => read_carried(
-            alloc, client, side, circuits, logs, channel, data_type, count,
-        ),
-        None => refuse_wide(client, side, circuits, logs, channel, data_type, count),
-    }
-}
-
-// A client asks for the value of a channel, as a type and a count that a message carries.
-fn read_carried(
-    alloc: Global,
-    client: usize,
-    side: &mut ClientSide,
-    circuits: &mut Vec<Joined>,
-    logs: &mut Vec<Vec<Line>>,
-    channel: usize,
-    data_type: u16,
-    count: u32,
-) -> Result<(), Refusal>
-    requires given { AreGiven (client_of side.old).names.requests side.old.core.requests }
-    requires numbered { AreNumbered
-        side.old.circuits.items
-        (map joined_of circuits.old.items)
-        client }
-    ensures reads { ReadsOn client channel
-        (record { data_type = data_type; count = count })
-        (client_of side.old)
-        (lines_in logs.old.items)
-        (map joined_of circuits.old.items)
-        result
-        (client_of side.new)
-        (lines_in logs.new.items)
-        (map joined_of circuits.new.items) }
-    ensures kept { side.new.circuits.items ≡ side.old.circuits.items }
-{
+    let Some((asked_type, asked_count)) = carried(data_type, count) else {
+        return refuse_wide(client, side, circuits, logs, channel, data_type, count);
+    };
     let (handle, way) = prepare(client, side, circuits, logs, channel)?;
-    match side.core.read(handle, data_type, count) {
+    match side.core.read(handle, asked_type, asked_count) {
         Ok(request) => {
             let number = side.names.requests.len();
             let meant = Intent::On(channel, Ask::Request(Kind::Read, number));
-            let wanted = wanted_on(way.sid, request, data_type, count);
+            let wanted = wanted_on(way.sid, request, asked_type, asked_count);
             let message = read_request(alloc, wanted);
             side.names.requests.push_reserved((request, meant));
-            push_sent(
-                circuits,
-                way.circuit,
-                Sent {
-                    message,
-                    intent: meant,
-                },
-            );
+            push_sent(circuits, way.circuit, message, meant);
             push_line(
                 logs,
                 side.life,
-                Line::Called(meant, Wish::ToRead(data_type, count)),
+                Line::Called(meant, Wish::ToRead(asked_type, asked_count)),
             );
             Ok(())
         }

@@ -11,9 +11,10 @@ ghost use Rattle.ca_world_data.specs.ServerCuts.{HasRoomFor};
 ghost use Rattle.ca_world_servers.specs.Losing.{AllMayLose, AreLost};
 ghost use Rattle.ca_world_servers.specs.Removing.{AllSeated, Becomes, RemovesAt, TellsRemoval};
 
+use crate::judging::takes_removal;
 use crate::world::World;
 use ca_text::Refusal;
-use ca_world_data::entries::push_some;
+use ca_world_data::entries::push_entries;
 use ca_world_data::history::LogEntry;
 use ca_world_data::joined::Joined;
 use ca_world_data::reporting::{report_ends, reserve_reports};
@@ -29,9 +30,6 @@ impl World {
         if server >= self.servers.len() {
             return Err(Refusal::BadEvent);
         }
-        if !self.may_remove(server, name) {
-            return Ok(());
-        }
         remove_at(
             self.alloc,
             server,
@@ -43,7 +41,8 @@ impl World {
     }
 }
 
-// A record of this server is removed. A removal that its core refuses changes nothing.
+// A record of this server is removed. A removal that its core refuses changes nothing, and takes no
+// memory.
 fn remove_at(
     alloc: Global,
     server: usize,
@@ -68,6 +67,9 @@ fn remove_at(
         (map joined_of circuits.new.items)
         (entries_in logs.new.items) }
 {
+    if !takes_removal(&side.core, name) {
+        return Ok(());
+    }
     let told = removal_entries(alloc, name, &side.records)?;
     let leading = prepare_losses(alloc, server, &side.core, circuits, name)?;
     reserve_reports(logs, side.life, &side.records, told.len())?;
@@ -118,7 +120,7 @@ fn tell_removal(
         (map joined_of circuits.new.items)
         (entries_in logs.new.items) }
 {
-    push_some(logs, side.life, told);
+    push_entries(logs, side.life, told);
     lose_all(alloc, server, &side.core, circuits, leading);
     forget_record(&mut side.records, name);
     report_ends(alloc, server, side, circuits, logs);

@@ -1,6 +1,6 @@
 //! A server's end of a circuit handles its next message, which may concern each other circuit of
 //! that server. Begin at `step_at`: all that needs memory is made before the step.
-ghost use Rattle.std.specs.Prelude.{ℕ, ◌≡◌, ◌+◌, ◌<◌, ◌≤◌, [], Bool, IfOk, List, None, OnOk, Some};
+ghost use Rattle.std.specs.Prelude.{◌≡◌, ◌+◌, ◌<◌, ◌≤◌, [], Bool, IfOk, List, None, OnOk, Some};
 ghost use Rattle.std.specs.Prelude.{length, map, vec_capacity, vec_len};
 ghost use Rattle.ca_ids.specs.Table.{under};
 ghost use Rattle.ca_model.specs.Server.{Server};
@@ -47,13 +47,12 @@ use ca_world_data::history::{LogEntry, Step, Told};
 use ca_world_data::joined::Joined;
 use ca_world_data::numbering::check_counts;
 use ca_world_data::replies::{MOST_REPLIES, Spare, make_spare, replies_in};
-use ca_world_data::reporting::{report_ends, reserve_reports};
-use ca_world_data::server::{RecordSide, ServerSide};
+use ca_world_data::reporting::{report_ends, report_ends_with, reserve_reports};
+use ca_world_data::server::{PutPlace, RecordSide, ServerSide};
 use ca_world_servers::ahead::{Ahead, look_at};
 use ca_world_servers::coming::Coming;
 use ca_world_servers::doing::{tell_effect, tell_write};
 use ca_world_servers::effects::{tell_on, wrote_by, wrote_of};
-use ca_world_servers::ends_with::report_ends_with;
 use ca_world_servers::handling::{note_handled, reserve_begin, reserve_handled};
 use std::alloc::{AllocError, Global};
 
@@ -83,13 +82,7 @@ impl World {
     pub fn server_step(&mut self, circuit: usize) -> Result<(), Refusal>
         ensures { Does self.old (event.ServerStep circuit) result self.new }
     {
-        let found = ends_at(
-            self.clients.len(),
-            self.servers.len(),
-            &self.circuits,
-            circuit,
-        );
-        let Some(ends) = found else {
+        let Some(ends) = ends_at(&self.clients, &self.servers, &self.circuits, circuit) else {
             return Err(Refusal::BadEvent);
         };
         if !ends.server_open {
@@ -477,8 +470,10 @@ fn note(
     let place = handled.len();
     let logged = logged_of(logs, side.life);
     tell_effect(
-        turn.circuit,
-        place,
+        PutPlace {
+            circuit: turn.circuit,
+            place,
+        },
         turn.server,
         side,
         circuits,
@@ -592,15 +587,10 @@ fn close_stepped(
     ensures numbers { side.new.circuits.items ≡ side.old.circuits.items }
 {
     let place = circuits[turn.circuit].lists.handled.len();
-    tell_write(
-        turn.circuit,
+    let put = PutPlace {
+        circuit: turn.circuit,
         place,
-        turn.server,
-        side,
-        circuits,
-        logs,
-        wrote,
-        write,
-    );
+    };
+    tell_write(put, turn.server, side, circuits, logs, wrote, write);
     report_ends_with(turn.alloc, turn.server, side, circuits, logs, turn.at, left);
 }

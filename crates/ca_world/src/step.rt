@@ -1,23 +1,14 @@
 //! Each event by its method: one `match` in `happen`. A moment is apart, because it may stop
 //! half-way, between two clients.
-ghost use Rattle.std.specs.Prelude.{◌≡◌, ◌↔◌, ℕ, IfOk, IsTrue, None};
-ghost use Rattle.ca_dbr.specs.Elements.{elements};
-ghost use Rattle.ca_events.specs.Events.{event_of, moment_of, record_of};
-ghost use Rattle.ca_model.specs.Events as event;
-ghost use Rattle.ca_model.specs.Runs.{IsServer};
-ghost use Rattle.ca_model.specs.World as model;
+ghost use Rattle.std.specs.Prelude.{◌≡◌, None};
+ghost use Rattle.ca_events.specs.Events.{event_of, moment_of};
 ghost use Rattle.ca_world.specs.Stepping.{IsClientCall, Steps};
-ghost use Rattle.ca_world.specs.Ticking.{Ticks};
 ghost use Rattle.ca_world_data.specs.Does.{Does};
 
 use crate::stopped::Stopped;
-use crate::tick::AfterTick;
 use crate::world::World;
-use ca_dbr::Value;
-use ca_events::{Addition, Event, Posting};
+use ca_events::Event;
 use ca_text::Refusal;
-use ca_world_data::payloads::value_again;
-use std::alloc::AllocError;
 
 /// What became of a world in which an event was to happen.
 #[derive(Drop)]
@@ -36,7 +27,7 @@ impl World {
         ensures { Steps self (event_of event.now) result }
     {
         match event.moment() {
-            Some(moment) => after_tick(self.tick(moment)),
+            Some(moment) => self.tick(moment),
             None => self.step_on(event),
         }
     }
@@ -79,10 +70,10 @@ impl World {
             Event::CutServer { circuit } => self.cut_server(*circuit as usize),
             Event::ClientRestart { client } => self.client_restart(*client as usize),
             Event::ServerRestart { server } => self.server_restart(*server as usize),
-            Event::Post(posting) => self.post_copy(posting),
+            Event::Post(posting) => self.post(posting),
             Event::Finish { server, name } => self.finish(*server as usize, name),
             Event::Remove { server, name } => self.remove(*server as usize, name),
-            Event::Add(addition) => self.add_copy(addition),
+            Event::Add(addition) => self.add(addition),
             Event::Tick { .. } => unreachable!(),
             _ => self.call(event),
         }
@@ -131,101 +122,5 @@ impl World {
             Event::GiveUp { client, request } => self.give_up(client as usize, request as usize),
             _ => unreachable!(),
         }
-    }
-
-    // A copy of a value is posted.
-    fn post_copy(&mut self, posting: &Posting) -> Result<(), Refusal>
-        ensures { Does
-            self.old
-            (event.Post
-            posting.now.server
-            posting.now.name.items
-            (elements posting.now.value)
-            posting.now.mask)
-            result
-            self.new }
-    {
-        let server = posting.server as usize;
-        if !self.has_server(server) {
-            return Err(Refusal::BadEvent);
-        }
-        match self.copy_value(&posting.value) {
-            Ok(copy) => self.post(server, &posting.name, copy, posting.mask),
-            Err(_) => self.lack_post(server, posting),
-        }
-    }
-
-    // A record is added with a copy of a value.
-    fn add_copy(&mut self, addition: &Addition) -> Result<(), Refusal>
-        ensures { Does
-            self.old
-            (event.Add addition.now.server (record_of addition.now))
-            result
-            self.new }
-    {
-        let server = addition.server as usize;
-        if !self.has_server(server) {
-            return Err(Refusal::BadEvent);
-        }
-        match self.copy_value(&addition.value) {
-            Ok(copy) => self.add(server, &addition.name, addition.count, addition.slow, copy),
-            Err(_) => self.lack_addition(server, addition),
-        }
-    }
-
-    // What a post is for which there is no memory: nothing, if the server refuses it.
-    fn lack_post(&self, server: usize, posting: &Posting) -> Result<(), Refusal>
-        requires { IsServer self.now server }
-        ensures { Does
-            self.now
-            (event.Post server posting.now.name.items (elements posting.now.value) posting.now.mask)
-            result
-            self.now }
-    {
-        if self.may_post(server, &posting.name, &posting.value) {
-            return Err(Refusal::OutOfMemory);
-        }
-        Ok(())
-    }
-
-    // What a new record is for which there is no memory: nothing, if the server refuses it.
-    fn lack_addition(&self, server: usize, addition: &Addition) -> Result<(), Refusal>
-        requires { IsServer self.now server }
-        ensures { Does
-            self.now
-            (event.Add server (record_of addition.now))
-            result
-            self.now }
-    {
-        if self.may_add(server, &addition.name, addition.count, &addition.value) {
-            return Err(Refusal::OutOfMemory);
-        }
-        Ok(())
-    }
-
-    // Whether there is a server of this number.
-    fn has_server(&self, server: usize) -> bool
-        ensures { IsTrue result ↔ IsServer self.now server }
-    {
-        server < self.servers.len()
-    }
-
-    // A copy of the value.
-    fn copy_value(&self, value: &Value) -> Result<Value, AllocError>
-        ensures { IfOk result (λ v. elements v ≡ elements value.now) }
-    {
-        value_again(self.alloc, value)
-    }
-}
-
-// What became of a world after a moment.
-fn after_tick(tick: AfterTick) -> AfterEvent
-    ensures { (old : model.World) (moment : ℕ) → Ticks old moment tick
-        → Steps old (event.Tick moment) result }
-{
-    match tick {
-        AfterTick::Done(world) => AfterEvent::Done(world),
-        AfterTick::Back(world) => AfterEvent::Refused(world, Refusal::BadEvent),
-        AfterTick::Stopped(world) => AfterEvent::Stopped(world),
     }
 }

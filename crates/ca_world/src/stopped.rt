@@ -4,8 +4,7 @@ ghost use Rattle.std.specs.Prelude.{◌≡◌, length, map};
 ghost use Rattle.ca_laws_parts.specs.Worlds.{AllStream};
 ghost use Rattle.ca_model.specs.Worlds.{IsLegalWorld, IsSafeWorld};
 ghost use Rattle.ca_world_data.specs.Logs.{lines_in};
-ghost use Rattle.ca_world_data.specs.Opening.{entries_in};
-ghost use Rattle.ca_world_data.specs.Seen.{client_of, server_of};
+ghost use Rattle.ca_world_data.specs.Seen.{client_of};
 
 use crate::world::World;
 use ca_world_data::client::ClientSide;

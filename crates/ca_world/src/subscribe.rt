@@ -12,7 +12,7 @@ use crate::wide::{carried, refuse_wide};
 use crate::world::World;
 use ca_text::{Command, Mask, Refusal};
 use ca_world_data::client::ClientSide;
-use ca_world_data::history::{Ask, Intent, Line, Sent, Wish};
+use ca_world_data::history::{Ask, Intent, Line, Wish};
 use ca_world_data::joined::Joined;
 use ca_world_data::logs::{note, push_line};
 use ca_world_data::payloads::{mask_payload, with_payload};
@@ -82,66 +82,25 @@ fn subscribe_on(
         (map joined_of circuits.new.items) }
     ensures kept { side.new.circuits.items ≡ side.old.circuits.items }
 {
-    match carried(data_type, count) {
-        Some((data_type, count)) => subscribe_carried(
-            alloc, client, side, circuits, logs, channel, data_type, count, mask,
-        ),
-        None => refuse_wide(client, side, circuits, logs, channel, data_type, count),
-    }
-}
-
-// A client subscribes to a channel, as a type and a count that a message carries.
-fn subscribe_carried(
-    alloc: Global,
-    client: usize,
-    side: &mut ClientSide,
-    circuits: &mut Vec<Joined>,
-    logs: &mut Vec<Vec<Line>>,
-    channel: usize,
-    data_type: u16,
-    count: u32,
-    mask: Mask,
-) -> Result<(), Refusal>
-    requires given { AreGiven (client_of side.old).names.subscriptions side.old.core.subscriptions }
-    requires numbered { AreNumbered
-        side.old.circuits.items
-        (map joined_of circuits.old.items)
-        client }
-    ensures subscribes { SubscribesOn client channel
-        (record { data_type = data_type; count = count })
-        mask
-        (client_of side.old)
-        (lines_in logs.old.items)
-        (map joined_of circuits.old.items)
-        result
-        (client_of side.new)
-        (lines_in logs.new.items)
-        (map joined_of circuits.new.items) }
-    ensures kept { side.new.circuits.items ≡ side.old.circuits.items }
-{
+    let Some((asked_type, asked_count)) = carried(data_type, count) else {
+        return refuse_wide(client, side, circuits, logs, channel, data_type, count);
+    };
     let (handle, way) = prepare(client, side, circuits, logs, channel)?;
     let payload = mask_payload(alloc, mask)?;
-    match side.core.subscribe(handle, data_type, count, mask) {
+    match side.core.subscribe(handle, asked_type, asked_count, mask) {
         Ok(subscription) => {
             let number = side.names.subscriptions.len();
             let meant = Intent::On(channel, Ask::Subscribe(number));
-            let wanted = wanted_on(way.sid, subscription, data_type, count);
+            let wanted = wanted_on(way.sid, subscription, asked_type, asked_count);
             let message = with_payload(Command::EventAdd, wanted, payload);
             side.names
                 .subscriptions
                 .push_reserved((subscription, meant));
-            push_sent(
-                circuits,
-                way.circuit,
-                Sent {
-                    message,
-                    intent: meant,
-                },
-            );
+            push_sent(circuits, way.circuit, message, meant);
             push_line(
                 logs,
                 side.life,
-                Line::Called(meant, Wish::ToWatch(data_type, count, mask.bits())),
+                Line::Called(meant, Wish::ToWatch(asked_type, asked_count, mask.bits())),
             );
             Ok(())
         }

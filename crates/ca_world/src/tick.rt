@@ -1,38 +1,31 @@
 //! A moment goes to all clients, one after another. The call takes the world itself, because it is
 //! no `World` any more if there is no memory for one client and those before it had the moment.
 ghost use Rattle.std.specs.Prelude.{◌≡◌, List, ℕ, map};
-ghost use Rattle.ca_world.specs.Ticking.{AllNumbered, AllTellFew, Ticks, TicksSome};
+ghost use Rattle.ca_model.specs.Events as event;
+ghost use Rattle.ca_world.specs.Stepping.{Steps};
+ghost use Rattle.ca_world.specs.Ticking.{AllNumbered, AllTellFew, TicksSome};
 ghost use Rattle.ca_world_data.specs.Indexed.{AreIndexed, client_numbers};
 ghost use Rattle.ca_world_data.specs.Logs.{lines_in};
 ghost use Rattle.ca_world_data.specs.Seen.{client_of, joined_of};
 
+use crate::step::AfterEvent;
 use crate::stopped::Stopped;
 use crate::world::World;
+use ca_text::Refusal;
 use ca_world_data::client::ClientSide;
 use ca_world_data::history::Line;
 use ca_world_data::joined::Joined;
 use ca_world_data::ticking::tick_client;
 use std::alloc::AllocError;
 
-/// What became of a world to which a moment was handed.
-#[derive(Drop)]
-pub enum AfterTick {
-    /// All clients had it.
-    Done(World),
-    /// The moment goes back. Nothing changed.
-    Back(World),
-    /// A client had no memory for it, after those before it had it.
-    Stopped(Stopped),
-}
-
 impl World {
     /// A moment is handed to all clients, in order. What each sends goes up its circuits, and its
     /// ends that were silent too long end.
-    pub fn tick(self, moment: u64) -> AfterTick
-        ensures { Ticks self moment result }
+    pub fn tick(self, moment: u64) -> AfterEvent
+        ensures { Steps self (event.Tick moment) result }
     {
         if moment < self.moment {
-            return AfterTick::Back(self);
+            return AfterEvent::Refused(self, Refusal::BadEvent);
         }
         let World {
             alloc,
@@ -44,7 +37,7 @@ impl World {
             moment: before,
         } = self;
         match tick_all(moment, &mut clients, &mut circuits, &mut client_logs) {
-            Ok(()) => AfterTick::Done(World {
+            Ok(()) => AfterEvent::Done(World {
                 alloc,
                 clients,
                 servers,
@@ -53,7 +46,7 @@ impl World {
                 server_logs,
                 moment,
             }),
-            Err(_) => AfterTick::Stopped(Stopped {
+            Err(_) => AfterEvent::Stopped(Stopped {
                 clients,
                 servers,
                 circuits,

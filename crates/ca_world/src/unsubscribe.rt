@@ -13,7 +13,7 @@ use ca_text::Refusal;
 use ca_wire::event_cancel_request;
 use ca_world_data::cancelling::{prepare_cancel, to_cancel};
 use ca_world_data::client::ClientSide;
-use ca_world_data::history::{Line, Sent, Wish};
+use ca_world_data::history::{Line, Wish};
 use ca_world_data::joined::Joined;
 use ca_world_data::logs::{note, push_line};
 use ca_world_data::way::push_sent;
@@ -66,14 +66,7 @@ fn unsubscribe_on(
         Ok(()) => {
             let meant = to_cancel(way.meant);
             let message = event_cancel_request(alloc, way.wanted);
-            push_sent(
-                circuits,
-                way.circuit,
-                Sent {
-                    message,
-                    intent: meant,
-                },
-            );
+            push_sent(circuits, way.circuit, message, meant);
             push_line(logs, side.life, Line::Called(meant, Wish::Nothing));
             Ok(())
         }

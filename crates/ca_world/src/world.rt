@@ -8,7 +8,7 @@ use crate::config::Config;
 use ca_world_data::client::ClientSide;
 use ca_world_data::history::{Line, LogEntry};
 use ca_world_data::joined::Joined;
-use ca_world_data::opening::{addresses_of, begin_clients, begin_servers};
+use ca_world_data::opening::{begin_clients, begin_servers, server_addresses};
 use ca_world_data::server::ServerSide;
 use std::alloc::{AllocError, Global};
 use std::marker::Model;
@@ -51,9 +51,9 @@ impl World {
         ensures setting { IsSetting config }
     {
         let alloc = config.alloc;
-        let servers_at = addresses_of(alloc, &config.servers)?;
-        let (clients, client_logs) = begin_clients(alloc, config.clients, &servers_at)?;
         let (servers, server_logs) = begin_servers(alloc, config.servers)?;
+        let servers_at = server_addresses(alloc, &servers)?;
+        let (clients, client_logs) = begin_clients(alloc, config.clients, &servers_at)?;
         Ok(World {
             alloc,
             clients,

@@ -15,7 +15,7 @@ use ca_dbr::Value;
 use ca_text::{Command, Refusal};
 use ca_wire::{Ioid, Sid, Wanted};
 use ca_world_data::client::ClientSide;
-use ca_world_data::history::{Ask, Intent, Kind, Line, Sent, Wish};
+use ca_world_data::history::{Ask, Intent, Kind, Line, Wish};
 use ca_world_data::joined::Joined;
 use ca_world_data::logs::{note, push_line};
 use ca_world_data::payloads::{count_within, put_payload, value_again, with_payload};
@@ -86,14 +86,7 @@ fn write_on(
             };
             let message = with_payload(Command::Write, wanted, payload);
             side.names.writes = number + 1;
-            push_sent(
-                circuits,
-                way.circuit,
-                Sent {
-                    message,
-                    intent: meant,
-                },
-            );
+            push_sent(circuits, way.circuit, message, meant);
             push_line(logs, side.life, Line::Called(meant, Wish::ToWrite(own)));
             Ok(())
         }

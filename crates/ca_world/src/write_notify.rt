@@ -14,7 +14,7 @@ use crate::world::World;
 use ca_dbr::Value;
 use ca_text::{Command, Refusal};
 use ca_world_data::client::ClientSide;
-use ca_world_data::history::{Ask, Intent, Kind, Line, Sent, Wish};
+use ca_world_data::history::{Ask, Intent, Kind, Line, Wish};
 use ca_world_data::joined::Joined;
 use ca_world_data::logs::{note, push_line};
 use ca_world_data::payloads::{count_within, put_payload, value_again, with_payload};
@@ -88,14 +88,7 @@ fn write_notify_on(
             let wanted = wanted_on(way.sid, request, value.base_type().number(), count);
             let message = with_payload(Command::WriteNotify, wanted, payload);
             side.names.requests.push_reserved((request, meant));
-            push_sent(
-                circuits,
-                way.circuit,
-                Sent {
-                    message,
-                    intent: meant,
-                },
-            );
+            push_sent(circuits, way.circuit, message, meant);
             push_line(logs, side.life, Line::Called(meant, Wish::ToWrite(own)));
             Ok(())
         }

@@ -4,16 +4,13 @@ use Rattle.std.specs.Prelude.{if◌then◌else◌, map, slice_set, unwrap_or, Ve
 use Rattle.std.proofs.lemmas.List.{append-nil, map-append}
 use Rattle.std.specs.declared.alloc.Global.{Global}
 use Rattle.ca_text.specs.declared.refusal.Refusal.{Refusal}
-use Rattle.ca_text.specs.declared.refusal.Refusal.TheVariants.{ArenaFull, BadPriority, NameLength, OutOfMemory}
+use Rattle.ca_text.specs.declared.refusal.Refusal.TheVariants.{OutOfMemory}
 use Rattle.ca_text.specs.Place.{At}
 use Rattle.ca_text.proofs.Places.{At-map, At-within, some_is}
-use Rattle.ca_model.specs.Answers.{Sending}
 use Rattle.ca_model.specs.Client.{Client}
-use Rattle.ca_model.specs.ClientCalls.{ClientOpens, Opening}
 use Rattle.ca_model.specs.History as history
 use Rattle.ca_model.specs.ClientEvents.{client_after, sent_on}
 use Rattle.ca_model.specs.Events.{Open}
-use Rattle.ca_model.specs.Runs.{IsClient}
 use Rattle.ca_model.specs.World.{grown}
 use Rattle.ca_model.specs.World as model
 use Rattle.ca_world_data.specs.declared.history.Line.{Line}
@@ -48,15 +45,6 @@ grown-line logs life log new line at is =
     set-map (λ (l : Vec Line Global). map line_of l.items) logs life new ∙ ap (λ (t : List Line). slice_set (lines_in logs) life (map line_of t)) is
     ∙ ap (slice_set (lines_in logs) life) (map-append line_of log.items (line ∷ [])) ∙ sym (ap (λ o. slice_set (lines_in logs) life (unwrap_or o [] ++ line_of line ∷ [])) there)
 
--- no log grows
-pub grown-none : {A : Type 0} (logs : List (List A)) (life : ℕ) (more : List A) → length logs ≤ life → grown life more logs ≡ logs
-grown-none logs life more over = beyond logs life _ over
-  where
-    beyond : {B : Type 0} (xs : List B) (i : ℕ) (x : B) → length xs ≤ i → slice_set xs i x ≡ xs
-    beyond [] i x over = refl
-    beyond (y ∷ xs) zero x over = absurd (omega (arith, over))
-    beyond (y ∷ xs) (suc i) x over = ap (λ (t : List _). y ∷ t) (beyond xs i x (omega (arith, over)))
-
 -- ---- calls that send nothing
 
 if-same : {A : Type 0} (b : Bool) (x : A) → (if b then x else x) ≡ x
@@ -85,14 +73,6 @@ after-quiet i x spoken core names lines w =
 
 -- ---- open
 
--- a call that was refused left the client as it was
-pub open-refused : (old : Client) (a : Opening) (e : Refusal) (sent : List Sending) (new : Client) → ClientOpens old a (Err e) sent new → new ≡ old
-open-refused old a NameLength sent new o = o.1.1
-open-refused old a BadPriority sent new o = o.2.1
-open-refused old a ArenaFull sent new o = o.2.1
-open-refused old a OutOfMemory sent new o = o.2.1
-open-refused old a _ sent new o = absurd o
-
 pub opens : (w : model.World) (i : ℕ) (name : List ℕ) (priority : ℕ) (x x' : model.ClientSide) (logs : List (List history.Line)) (r : Result (Unit {0}) Refusal) → At w.clients i x
     → OpensOn (record { name = name; priority = priority; now = w.moment }) x w.client_logs r x' logs → Does w (Open i name priority) r (record w { clients = slice_set w.clients i x'; client_logs = logs })
 opens w i name priority x x' logs (Ok u) at (inl d) =
@@ -103,10 +83,3 @@ opens w i name priority x x' logs (Ok u) at (inr d) =
 opens w i name priority x x' logs (Err OutOfMemory) at d =
     (record { x = x; at = at }, (λ t. record w { clients = slice_set w.clients i (d.0 t); client_logs = d.1 t }) ∙ (λ t. record w { clients = set-same w.clients i x at t }))
 opens w i name priority x x' logs (Err _) at d = absurd d
-
--- no client
-pub no-client : (w : model.World) (i : ℕ) → length w.clients ≤ i → IsClient w i → ⊥
-no-client w i over can = (let within = At-within w.clients i can.x can.at in omega (arith, over, within))
-
-pub no-server : (w : model.World) (i : ℕ) → length w.servers ≤ i → Rattle.ca_model.specs.Runs.IsServer w i → ⊥
-no-server w i over can = (let within = At-within w.servers i can.y can.at in omega (arith, over, within))

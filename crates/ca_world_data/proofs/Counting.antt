@@ -140,11 +140,6 @@ each-next f i ks j new at is =
 
 -- ---- what is at a place
 
-pub kept-there : (p n : ℕ) (j : Opened) (s : AddedSubscription) → IsPlaced p n (joined_of j) → At j.standing.items p s → s.posts < post_limit
-kept-there p n j s h at =
-    let same : h.s ≡ standing_of s = At-one (map standing_of j.standing.items) p h.s (standing_of s) h.at (At-map standing_of j.standing.items p s at) in
-    subst (λ (z : Standing). z.posts < post_limit) same h.few
-
 pub place-within : (p n : ℕ) (j : Opened) → IsPlaced p n (joined_of j) → p < length j.standing.items
 place-within p n j h = (let m = At-mapped standing_of j.standing.items p h.s h.at in At-within j.standing.items p m.0 m.1)
 

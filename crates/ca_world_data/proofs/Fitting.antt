@@ -1,37 +1,16 @@
 -- The value of a write that was accepted fits into its message.
-use Rattle.std.proofs.Common.{◌≡◌, ◌∙◌, ◌++◌, ℕ, ◌+◌, ◌≤◌, ◌==◌, ◌||◌, Bool, true, false, not, nat_lt, List, [], ◌∷◌, Option, None, Ok, length, ap, arith, refl, replicate, subst, sym}
+use Rattle.std.proofs.Common.{◌≡◌, ◌∙◌, ◌≤◌, ◌==◌, ◌||◌, Bool, true, false, not, nat_lt, [], ◌∷◌, Option, None, length, ap, refl, sym}
 use Rattle.std.proofs.lemmas.Bool.{ltb-false}
 use Rattle.ca_text.specs.declared.refusal.Refusal.{Refusal}
 use Rattle.ca_text.specs.declared.refusal.Refusal.TheVariants as refusal
 use Rattle.ca_text.specs.Limits.{payload_limit}
 use Rattle.ca_arena.specs.declared.handle.Handle.{Handle}
-use Rattle.ca_dbr.specs.declared.data_type.DataType.{DataType}
-use Rattle.ca_dbr.specs.declared.data_type.Form.{Form}
-use Rattle.ca_dbr.specs.declared.data_type.Form.TheVariants as form
-use Rattle.ca_dbr.specs.declared.value.Meta.{Meta}
-use Rattle.ca_dbr.specs.Elements.{Elements, base_of, bytes_of, count_of}
-use Rattle.ca_dbr.specs.Image.{Types, Writes, image, meta_bytes}
-use Rattle.ca_dbr.specs.Types.{base_number, form_number, padding_size}
+use Rattle.ca_dbr.specs.Elements.{Elements, bytes_of, count_of}
 use Rattle.ca_records.specs.Rules.{may_write}
 use Rattle.ca_model.specs.Client.{Client}
 use Rattle.ca_model.specs.ClientCalls.{IsLive, LiveChannel, fault_at, first_refusal, is_misfit, is_over, put_fault}
 
 -- ---- the bytes of a value
-
-plain-form : (f : Form) (n : ℕ) → n + form_number f ≡ n → f ≡ form.Plain
-plain-form form.Plain n is = refl
-plain-form form.Status n is = absurd (omega (arith, is))
-plain-form form.Time n is = absurd (omega (arith, is))
-
-plain-image : (t : DataType) (e : Elements) (m : Meta) → Types (base_number (base_of e)) e t → image t e m ≡ bytes_of e
-plain-image t e m types =
-    let number : base_number t.base ≡ base_number (base_of e) = ap base_number types.based in
-    let plain : t.form ≡ form.Plain = plain-form t.form (base_number t.base) (types.numbered ∙ sym number) in
-    ap (λ (f : Form). meta_bytes f m ++ (replicate (padding_size f t.base) 0 ++ bytes_of e)) plain
-
-pub written-bytes : (e : Elements) (m : Meta) (n : ℕ) (old new : List ℕ) (u : Unit {0}) → n ≡ base_number (base_of e) → old ≡ [] → Writes n e m old (Ok u) new → new ≡ bytes_of e
-written-bytes e m n old new u number none did =
-    did.2 ∙ ap (λ (xs : List ℕ). xs ++ image did.0 e m) none ∙ plain-image did.0 e m (subst (λ (k : ℕ). Types k e did.0) number did.1)
 
 -- ---- what a write that is accepted has
 

@@ -13,15 +13,16 @@ use Rattle.ca_model.specs.History as history
 use Rattle.ca_model.specs.ClientEvents.{sent_on}
 use Rattle.ca_model.specs.World as model
 use Rattle.ca_model.specs.World.{Joined}
+use Rattle.ca_model.proofs.Handles.{same-itself}
 use Rattle.ca_client_core.specs.declared.for_histories.Sending.{Sending}
 use Rattle.ca_client_core.specs.ForHistories.{sending_of}
 use Rattle.ca_world_data.specs.declared.joined.Joined.{Joined as Opened}
 use Rattle.ca_world_data.specs.Found.{AreNumbered, IsAt, IsNowhere}
 use Rattle.ca_world_data.specs.Seen.{joined_of}
-use Rattle.ca_world_data.specs.Sends.{HasRoomForAll, IsRepeated, KeepsRoom, LeavesRoom, count_on}
+use Rattle.ca_world_data.specs.Sends.{HasRoomForAll, KeepsRoom, LeavesRoom, count_on}
 use Rattle.ca_world_data.specs.Speaking.{GoesBy, GoesUp, HasRoomUp, sent_up, stamped}
 use Rattle.ca_world_data.proofs.Indexes.{one-at-client}
-use Rattle.ca_world_data.proofs.Sendings.{same-itself, sent-by}
+use Rattle.ca_world_data.proofs.Sendings.{sent-by}
 
 -- ---- one, and then the rest
 
@@ -134,19 +135,6 @@ module _ (i : ℕ) (s : Sending) (rest : List Sending) (ks ks' : List Opened) (c
 abbrev pub HasRoomBefore : (i : ℕ) → List Sending → (place : ℕ) → List Opened → Type 0
 HasRoomBefore i sent place ks = (p : ℕ) (s : Sending) → At sent p s → p < place → (k : ℕ) → IsAt (map joined_of ks) i s.circuit k → HasRoomUp (count_on s.circuit sent) (Some k) ks
 
--- the message at this place goes where one before it goes
-pub room-repeated : (i : ℕ) (sent : List Sending) (place : ℕ) (ks : List Opened) → HasRoomBefore i sent place ks → IsRepeated sent place true → HasRoomBefore i sent (place + 1) ks
-room-repeated i sent place ks room again p s at before k there =
-    elim (cases_lt p place) [
-      | inl lt ↦ room p s at lt k there
-      | inr ge ↦
-          (let same : p ≡ place = omega (arith, before, ge) in
-          let is : s ≡ again.2 = At-one sent place s again.2 (subst (λ (z : ℕ). At sent z s) same at) again.5 in
-          let circuits : again.1.circuit ≡ s.circuit = sym again.6 ∙ ap (λ (z : Sending). z.circuit) (sym is) in
-          subst (λ (z : Handle). HasRoomUp (count_on z sent) (Some k) ks) circuits
-          (room again.0 again.1 again.4 again.3 k (subst (λ (z : Handle). IsAt (map joined_of ks) i z k) (sym circuits) there)))
-    ]
-
 -- room was made where the message at this place goes
 pub room-made : (i : ℕ) (numbers : List ℕ) (sent : List Sending) (place : ℕ) (s : Sending) (ks ks' : List Opened) (circuit : Option ℕ) → AreNumbered numbers (map joined_of ks) i → HasRoomBefore i sent place ks → At sent place s → GoesBy circuit (map joined_of ks) i s.circuit
     → map joined_of ks' ≡ map joined_of ks → HasRoomUp (count_on s.circuit sent) circuit ks' → KeepsRoom ks ks' → HasRoomBefore i sent (place + 1) ks'
@@ -204,10 +192,6 @@ leaves-set ks number j new at len capacity = record { less = less; others = othe
           | inl is ↦ absurd (other (ap (λ (z : ℕ). let o : Option ℕ = Some z in o) (sym is.0)))
           | inr old ↦ room d old.0
         ]
-
--- nothing took a place
-pub leaves-same : (circuit : Option ℕ) (ks : List Opened) → LeavesRoom circuit ks ks
-leaves-same circuit ks = record { less = λ k n room d there. (let had = room d there in omega (arith, had)); others = λ k n other room. room }
 
 -- ---- one message was put on its circuit
 

@@ -110,6 +110,3 @@ pub log-none : (logs : List (Vec Line Global)) (life : ℕ) → length logs ≤ 
 log-none [] life over = refl
 log-none (x ∷ logs) zero over = absurd (omega (arith, over))
 log-none (x ∷ logs) (suc life) over = log-none logs life (omega (arith, over))
-
-pub none-in : (n : ℕ) (meant : history.Intent) → HandsOut [] n meant None
-none-in n meant place there = absurd cc

@@ -5,8 +5,9 @@ use Rattle.ca_arena.specs.declared.handle.Handle.{Handle}
 use Rattle.ca_text.specs.Place.{At}
 use Rattle.ca_text.proofs.Places.{At-map, At-mapped, At-one, At-set}
 use Rattle.ca_model.specs.World.{Joined}
+use Rattle.ca_world_data.specs.declared.server.ServerSide.{ServerSide}
 use Rattle.ca_world_data.specs.Found.{AreNumbered}
-use Rattle.ca_world_data.specs.Indexed.{AreIndexed, HasNumber}
+use Rattle.ca_world_data.specs.Indexed.{AreIndexed, HasNumber, server_numbers}
 use Rattle.ca_world_data.proofs.Worlds.{set-map, set-same}
 
 -- one of many changed, and has the same numbers
@@ -18,6 +19,11 @@ numbers-set f xs i x new at same =
 pub indexed-same : (cs cs' ss ss' : List (List ℕ)) (ks ks' : List Joined) → cs' ≡ cs → ss' ≡ ss → ks' ≡ ks → AreIndexed cs ss ks → AreIndexed cs' ss' ks'
 indexed-same cs cs' ss ss' ks ks' c s k h =
     subst (λ (z : List (List ℕ) × (List (List ℕ) × List Joined)). AreIndexed z.0 z.1.0 z.1.1) (λ t. (sym c t, (sym s t, sym k t))) h
+
+-- one server was set to one with the numbers of the same circuits
+pub indexed-server : (numbers : List (List ℕ)) (ss : List ServerSide) (i : ℕ) (y y' : ServerSide) (ks ks' : List Joined) → At ss i y → y'.circuits.items ≡ y.circuits.items → ks' ≡ ks → AreIndexed numbers (server_numbers ss) ks → AreIndexed numbers (server_numbers (slice_set ss i y')) ks'
+indexed-server numbers ss i y y' ks ks' at same =
+    indexed-same numbers numbers (server_numbers ss) (server_numbers (slice_set ss i y')) ks ks' refl (numbers-set (λ (z : ServerSide). z.circuits.items) ss i y y' at same)
 
 -- a circuit after an event: it joins what it joined, and its ends are open only if they were
 pub record KeepsEnds (j new : Joined) : Type 0 where

@@ -16,6 +16,7 @@ pub mod Entering
 pub mod Gone
 pub mod Serving
 pub mod Reported
+pub mod EndsUnder
 pub mod Numbers
 pub mod Counting
 pub mod Handed
@@ -32,3 +33,4 @@ pub mod RepliesWithin
 pub mod Steppings
 pub mod Tellings
 pub mod Each
+pub mod Ranges

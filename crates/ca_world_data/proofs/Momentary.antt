@@ -3,7 +3,6 @@ use Rattle.std.proofs.Common.{◌≡◌, ◌≢◌, ℕ, ◌≤◌, inl, inr, �
 use Rattle.std.specs.Prelude.{IsErr, Result, filter, map}
 use Rattle.std.specs.declared.alloc.AllocError.{AllocError}
 use Rattle.ca_arena.specs.declared.handle.Handle.{Handle}
-use Rattle.ca_text.specs.declared.refusal.Refusal.{Refusal}
 use Rattle.ca_text.specs.declared.refusal.Refusal.TheVariants.{OutOfMemory}
 use Rattle.ca_client_core.specs.declared.for_histories.Sending.{Sending as Said}
 use Rattle.ca_client_core.specs.declared.for_moments.Foretold.{Foretold}
@@ -49,15 +48,6 @@ lacks-sent x moment f told some =
     no-more : (ss : List Said) → map sending_of ss ≡ [] → ss ≡ []
     no-more [] e = refl
     no-more (s ∷ ss) e = absurd (let bad : sending_of s ∷ map sending_of ss ≡ [] = e in cc)
-
--- so may one of whose ends some end
-pub lacks-ends : (x : Client) (moment : ℕ) (f : Foretold) → Foretells x moment f → f.ends ≡ true → ClientTicks x moment (Err OutOfMemory) [] x
-lacks-ends x moment f told on = (inr (inl (told.some on)), (refl, refl))
-
--- a refusal is out of memory, and changes nothing
-pub refuses-so : (x y : Client) (moment : ℕ) (e : Refusal) (sent : List Sending) → ClientTicks x moment (Err e) sent y → ClientTicks x moment (Err OutOfMemory) [] x × (y ≡ x)
-refuses-so x y moment OutOfMemory sent does = ((does.0, (refl, refl)), does.1.1)
-refuses-so x y moment _ sent does = absurd does
 
 -- ---- what it told
 

@@ -8,7 +8,7 @@ use Rattle.ca_queue.specs.Circuit.{AreInOne, queue_posted}
 use Rattle.ca_queue.specs.Keys.{AreApart, is_among, same}
 use Rattle.ca_queue.specs.Queue.{Queue, posted}
 use Rattle.ca_queue.proofs.Circuits.{set-is-map}
-use Rattle.ca_queue.proofs.Keys.{same_is, same_itself}
+use Rattle.ca_queue.proofs.Keys.{other_sym, same_itself}
 use Rattle.ca_text.specs.Place.{At}
 use Rattle.ca_text.proofs.Places.{some_is}
 use Rattle.ca_model.specs.History.{Cause, Update}
@@ -54,13 +54,6 @@ apart-at key [] p s none at = absurd cc
 apart-at key (x ∷ ss) zero s none at = ap (λ (z : Standing). same key z.key) (sym (some_is x s at)) ∙ or-left (same key x.key) (is_among key (map (λ (z : Standing). z.key) ss)) none
 apart-at key (x ∷ ss) (suc p) s none at = apart-at key ss p s (or-right (same key x.key) (is_among key (map (λ (z : Standing). z.key) ss)) none) at
 
-other-way : (a b : SubKey) → same a b ≡ false → same b a ≡ false
-other-way a b differs = go (same b a) refl
-  where
-    go : (c : Bool) → same b a ≡ c → same b a ≡ false
-    go false is = is
-    go true is = (let here : same a b ≡ true = ap (λ (k : SubKey). same a k) (same_is b a is) ∙ same_itself a in absurd cc)
-
 -- one has it
 count-one : (ss : List Standing) (p : ℕ) (s : Standing) → AreApart (map (λ (x : Standing). x.key) ss) → At ss p s → map (counted s.key) ss ≡ slice_set ss p (record s { posts = s.posts + 1 })
 count-one [] p s apart at = absurd cc
@@ -69,7 +62,7 @@ count-one (x ∷ ss) zero s apart at =
     (λ i. counted s.key (is i) ∷ count-none s.key ss (ap (λ (z : Standing). is_among z.key (map (λ (x : Standing). x.key) ss)) (sym is) ∙ apart.0) i)
     ∙ (λ i. (if same_itself s.key i then record s { posts = s.posts + 1 } else s) ∷ ss)
 count-one (x ∷ ss) (suc p) s apart at =
-    let differs : same s.key x.key ≡ false = other-way x.key s.key (apart-at x.key ss p s apart.0 at) in
+    let differs : same s.key x.key ≡ false = other_sym x.key s.key (apart-at x.key ss p s apart.0 at) in
     (λ i. (if differs i then record x { posts = x.posts + 1 } else x) ∷ count-one ss p s apart.1 at i)
 
 wait-one : (qs : List Q) (ss : List Standing) (p : ℕ) (s : Standing) → AreApart (map (λ (x : Standing). x.key) ss) → At ss p s → fold (waits s.key) qs ss ≡ map (queue_posted s.key (s.place, Update s.posts)) qs
@@ -80,7 +73,7 @@ wait-one qs (x ∷ ss) zero s apart at =
     ∙ ap (λ (b : Bool). fold (waits s.key) (if b then map (queue_posted s.key (s.place, Update s.posts)) qs else qs) ss) (same_itself s.key)
     ∙ wait-none s.key (map (queue_posted s.key (s.place, Update s.posts)) qs) ss (ap (λ (z : Standing). is_among z.key (map (λ (x : Standing). x.key) ss)) (sym is) ∙ apart.0)
 wait-one qs (x ∷ ss) (suc p) s apart at =
-    let differs : same s.key x.key ≡ false = other-way x.key s.key (apart-at x.key ss p s apart.0 at) in
+    let differs : same s.key x.key ≡ false = other_sym x.key s.key (apart-at x.key ss p s apart.0 at) in
     ap (λ (b : Bool). fold (waits s.key) (if b then map (queue_posted s.key (x.place, Update x.posts)) qs else qs) ss) differs ∙ wait-one qs ss p s apart.1 at
 
 -- in the one queue that has it

@@ -1,6 +1,6 @@
 -- At most two replies, read off their bytes.
-use Rattle.std.proofs.Common.{◌≡◌, ℕ, ◌+◌, ◌-◌, ◌<◌, ◌≤◌, List, [], ◌∷◌, ◌++◌, length, drop, take, refl, sym, ap, ◌∙◌, arith}
-use Rattle.std.proofs.lemmas.List.{append-nil, drop_at, length-append, length-drop, take_all}
+use Rattle.std.proofs.Common.{◌≡◌, ℕ, ◌+◌, ◌<◌, ◌≤◌, List, [], ◌∷◌, ◌++◌, length, drop, refl, sym, ap, ◌∙◌, arith}
+use Rattle.std.proofs.lemmas.List.{append-nil, drop_at, length-append}
 use Rattle.ca_wire.specs.Fields.{Fields}
 use Rattle.ca_wire.specs.Front.{FrontFits}
 use Rattle.ca_wire.specs.Message.{IsMessage, spelled, spelling}
@@ -8,23 +8,12 @@ use Rattle.ca_wire.proofs.Messages.{spelling-long}
 use Rattle.ca_world_data.specs.Replies.{AreFew, AreWithin}
 use Rattle.ca_world_data.specs.Updates.{AreGood}
 
--- the slice from a place on
-pub rest-is : (bytes : List ℕ) (n : ℕ) → take (length bytes - n) (drop n bytes) ≡ drop n bytes
-rest-is bytes n = (let len = length-drop n bytes in take_all (length bytes - n) (drop n bytes) (omega (arith, len)))
-
 -- what is within a size is within a larger one
 pub within-more : (n k : ℕ) (ms : List Fields) → n ≤ k → AreWithin n ms → AreWithin k ms
 within-more n k [] le within = tt
 within-more n k (a ∷ []) le within = omega (arith, le, within)
 within-more n k (a ∷ b ∷ []) le within = (let first = within.0 in omega (arith, le, first), within.1)
 within-more n k (a ∷ b ∷ c ∷ ms) le within = absurd within
-
-some-long : (m : Fields) (rest : List ℕ) → spelling m ++ rest ≡ [] → ⊥
-some-long m rest none =
-    let long = spelling-long m in
-    let size = length-append (spelling m) rest in
-    let empty : length (spelling m ++ rest) ≡ 0 = ap (λ (l : List ℕ). length l) none in
-    omega (arith, long, size, empty)
 
 -- no bytes, no message
 pub none-spelled : (ms : List Fields) → length (spelled ms) ≡ 0 → ms ≡ []

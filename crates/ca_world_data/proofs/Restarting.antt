@@ -1,5 +1,5 @@
 -- Clients and servers begin again, from what their parts became.
-use Rattle.std.proofs.Common.{◌≡◌, ℕ, ◌==◌, ◌&&◌, Bool, true, false, List, [], ◌∷◌, ◌++◌, Result, Ok, Err, length, refl, sym, ap, subst, ◌∙◌}
+use Rattle.std.proofs.Common.{◌≡◌, ℕ, ◌+◌, ◌==◌, ◌&&◌, Bool, true, false, List, [], ◌∷◌, ◌++◌, Result, Ok, Err, length, refl, sym, ap, subst, ◌∙◌}
 use Rattle.std.specs.Prelude.{if◌then◌else◌, map, option_map, slice_set, unwrap_or, Vec, Some, None}
 use Rattle.std.specs.declared.alloc.Global.{Global}
 use Rattle.std.proofs.lemmas.Bool.{eq-eqb}
@@ -18,7 +18,7 @@ use Rattle.ca_model.specs.ServerSteps.{output_of}
 use Rattle.ca_model.specs.ClientEvents.{client_closed, client_gone}
 use Rattle.ca_model.specs.Events.{ClientRestart, ServerRestart}
 use Rattle.ca_model.specs.ServerEvents.{ending, ends_untold, server_closed}
-use Rattle.ca_model.specs.World.{addresses, client_begun, server_begun}
+use Rattle.ca_model.specs.World.{addresses, client_begun, numbered, server_begun}
 use Rattle.ca_model.specs.World as model
 use Rattle.ca_world_data.specs.declared.client.ClientSide.{ClientSide}
 use Rattle.ca_world_data.specs.declared.history.LogEntry as real
@@ -148,6 +148,13 @@ indexed-server cs ss ks i core own h = record { clients = clients; servers = ser
 addresses-there : (ss : List ServerSide) → map address_of ss ≡ addresses (map (λ (y : model.ServerSide). y.setting) (map server_of ss))
 addresses-there [] = refl
 addresses-there (y ∷ ss) = ap (λ (t : List Address). y.setting.address ∷ t) (addresses-there ss)
+
+settings-begun : (n : ℕ) (settings : List model.ServerSetting) → map (λ (y : model.ServerSide). y.setting) (numbered n (server_begun 0) settings) ≡ settings
+settings-begun n [] = refl
+settings-begun n (s ∷ settings) = ap (λ (t : List model.ServerSetting). s ∷ t) (settings-begun (n + 1) settings)
+
+pub addresses-begun : (settings : List model.ServerSetting) (ss : List ServerSide) → map server_of ss ≡ numbered 0 (server_begun 0) settings → map address_of ss ≡ addresses settings
+addresses-begun settings ss is = addresses-there ss ∙ ap addresses (ap (map (λ (y : model.ServerSide). y.setting)) is ∙ settings-begun 0 settings)
 
 module _ (cs : List ClientSide) (ss : List ServerSide) (ks : List Joined) (cl : List (Vec spoken.Line Global)) (sl : List (Vec real.LogEntry Global)) (m : ℕ) where
   pub client-restarts : (i : ℕ) (x x' : ClientSide) (servers : List Address) (cl' : List (Vec spoken.Line Global)) (ks' : List Joined) (r : Result (Unit {0}) Refusal) → At cs i x → servers ≡ map address_of ss → RestartsClient servers m i x cl ks r x' cl' ks'

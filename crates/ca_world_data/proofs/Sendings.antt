@@ -1,7 +1,7 @@
 -- A message that a client sends goes on one circuit, and all others are as they were.
 use Rattle.std.proofs.Common.{◌≡◌, ℕ, zero, suc, Bool, true, false, List, [], ◌∷◌, ◌++◌, Option, Some, None, eqb, refl, sym, ap, ◌∙◌, arith}
 use Rattle.std.specs.Prelude.{◌&&◌, cond, map, slice_set}
-use Rattle.std.proofs.lemmas.Bool.{and_from, and_parts, eq-eqb, eqb-true}
+use Rattle.std.proofs.lemmas.Bool.{eq-eqb, eqb-true}
 use Rattle.std.proofs.lemmas.List.{append-nil}
 use Rattle.ca_arena.specs.declared.handle.Handle.{Handle}
 use Rattle.ca_ids.specs.Table.{same_handle}
@@ -12,21 +12,12 @@ use Rattle.ca_model.specs.History as history
 use Rattle.ca_model.specs.ClientEvents.{sent_on}
 use Rattle.ca_model.specs.World as model
 use Rattle.ca_model.specs.World.{Joined}
+use Rattle.ca_model.proofs.Handles.{same-is, same-itself}
 use Rattle.ca_world_data.specs.Found.{AreNumbered, IsAt, IsNowhere}
 use Rattle.ca_world_data.specs.Speaking.{GoesBy, GoesUp, sent_up, stamped, with_up}
 use Rattle.ca_world_data.proofs.Indexes.{one-at-client}
 
 -- ---- handles
-
-pub same-itself : (h : Handle) → same_handle h h ≡ true
-same-itself h = and_from (eqb h.index h.index) (eqb h.generation h.generation) (eq-eqb h.index h.index refl) (eq-eqb h.generation h.generation refl)
-
-pub same-is : (g h : Handle) → same_handle g h ≡ true → g ≡ h
-same-is g h is =
-    let parts = and_parts (eqb g.index h.index) (eqb g.generation h.generation) is in
-    let index : g.index ≡ h.index = eqb-true g.index h.index parts.0 in
-    let generation : g.generation ≡ h.generation = eqb-true g.generation h.generation parts.1 in
-    λ t. record { index = index t; generation = generation t }
 
 -- ---- lists
 

@@ -14,6 +14,7 @@ use Rattle.ca_model.specs.Answers.{Left, Notice}
 use Rattle.ca_model.specs.History as history
 use Rattle.ca_model.specs.ClientEvents.{after_tick, client_closed, line_of, lines_of}
 use Rattle.ca_model.specs.World.{Joined, Names, grown}
+use Rattle.ca_model.proofs.Handles.{same-is, same-itself}
 use Rattle.ca_world_data.specs.declared.history.Line.{Line}
 use Rattle.ca_world_data.specs.declared.joined.Joined.{Joined as Opened}
 use Rattle.ca_world_data.specs.Found.{AreNumbered, IsAt, IsNowhere}
@@ -21,7 +22,7 @@ use Rattle.ca_world_data.specs.Logs.{HasRoom}
 use Rattle.ca_world_data.specs.Seen.{joined_of}
 use Rattle.ca_world_data.specs.Silencing.{EndsAt, silenced}
 use Rattle.ca_world_data.proofs.Indexes.{KeepsEnds, one-at-client}
-use Rattle.ca_world_data.proofs.Sendings.{map-one, same-is, same-itself}
+use Rattle.ca_world_data.proofs.Sendings.{map-one}
 use Rattle.ca_world_data.proofs.Worlds.{set-map}
 
 -- ---- circuits

@@ -1,15 +1,14 @@
 -- Bytes reach a server, from what its parts became.
-use Rattle.std.proofs.Common.{◌≡◌, ◌≢◌, ℕ, ◌≤◌, true, false, List, Result, Ok, Err, length, take, drop, sym, ap, subst, ◌∙◌}
+use Rattle.std.proofs.Common.{◌≡◌, ℕ, ◌≤◌, true, false, List, Result, Ok, Err, length, take, drop, sym, ap, subst, ◌∙◌}
 use Rattle.std.specs.Prelude.{map, slice_set}
 use Rattle.ca_arena.specs.declared.handle.Handle.{Handle}
 use Rattle.ca_text.specs.declared.refusal.Refusal.{Refusal}
-use Rattle.ca_text.specs.declared.refusal.Refusal.TheVariants.{BadEvent, CircuitClosed, OutOfMemory}
+use Rattle.ca_text.specs.declared.refusal.Refusal.TheVariants.{BadEvent, OutOfMemory}
 use Rattle.ca_text.specs.Place.{At}
 use Rattle.ca_text.proofs.Places.{At-map, At-one}
 use Rattle.ca_model.specs.Client.{out_bytes}
 use Rattle.ca_model.specs.ClientEnds.{handed_over}
 use Rattle.ca_model.specs.History.{Entry, Line}
-use Rattle.ca_model.specs.Server.{Server}
 use Rattle.ca_model.specs.ServerSteps.{Gives}
 use Rattle.ca_model.specs.ClientEvents.{up_taken, waiting_up}
 use Rattle.ca_model.specs.Events.{Up}
@@ -23,16 +22,9 @@ use Rattle.ca_world_data.specs.Does.{Does}
 use Rattle.ca_world_data.specs.declared.ends.Ends.{Ends}
 use Rattle.ca_world_data.specs.Ends.{AreEnds, NoEnds, ends_of}
 use Rattle.ca_world_data.specs.Seen.{client_of, joined_of, server_of}
-use Rattle.ca_world_data.specs.ServerCuts.{IsServing}
 use Rattle.ca_world_data.specs.Ups.{HandsUp, LeavesUp}
 use Rattle.ca_world_data.proofs.Indexes.{KeepsEnds, ends-stay}
 use Rattle.ca_world_data.proofs.Worlds.{if-false, if-true, joins, none-joined, one-at, same-circuit, set-map, set-same, world_of}
-
--- An open end that refuses bytes was given some.
-pub given-some : (y y' : Server) (g : Handle) (bytes : List ℕ) (n : ℕ) (e : Refusal) → IsServing y g → Gives y g (take n bytes) (Err e) y' → n ≢ 0
-given-some y y' g bytes n CircuitClosed serves d = absurd (d.0 serves.0 serves.1)
-given-some y y' g bytes n OutOfMemory serves d = λ none. d.1 (ap (λ (k : ℕ). take k bytes) none)
-given-some y y' g bytes n _ serves d = absurd d
 
 module _ (cs : List ClientSide) (ss : List ServerSide) (ks : List Joined) (cl : List (List Line)) (sl : List (List Entry)) (m : ℕ) where
   -- no circuit

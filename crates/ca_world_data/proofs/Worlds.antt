@@ -1,5 +1,5 @@
 -- A world seen through its lists.
-use Rattle.std.proofs.Common.{◌≡◌, ℕ, zero, suc, ◌<◌, Bool, true, false, List, [], ◌∷◌, length, get_or, refl, sym, ap, subst, arith}
+use Rattle.std.proofs.Common.{◌≡◌, ℕ, zero, suc, ◌<◌, Bool, true, false, List, [], ◌∷◌, length, get_or, refl, sym, ap, subst, ◌∙◌, arith}
 use Rattle.std.specs.Prelude.{if◌then◌else◌, map, slice_set}
 use Rattle.std.proofs.lemmas.List.{length-map}
 use Rattle.std.proofs.lemmas.Option.{slice_get-get_or}
@@ -56,14 +56,26 @@ world_of cs ss ks cl sl m = record {
   moment = m;
 }
 
--- the ends that were found among lists of these lengths
-pub ends-here : (cs : List ClientSide) (ss : List ServerSide) (ks ls : List Joined) (c s k : ℕ) (e : Ends) → c ≡ length cs → s ≡ length ss → ls ≡ ks → AreEnds c s ls k e → AreEnds (length cs) (length ss) ks k e
-ends-here cs ss ks ls c s k e is_c is_s is a =
-    subst (λ (z : ℕ × (ℕ × List Joined)). AreEnds z.0 z.1.0 z.1.1 k e) (λ t. (is_c t, (is_s t, is t))) a
+-- one server was set to one that looks the same
+pub server-stays : (cs : List ClientSide) (ss : List ServerSide) (ks ks' : List Joined) (cl : List (List Line)) (sl sl' : List (List Entry)) (m i : ℕ) (y y' : ServerSide) → At ss i y → server_of y' ≡ server_of y → map joined_of ks' ≡ map joined_of ks → sl' ≡ sl
+    → world_of cs (slice_set ss i y') ks' cl sl' m ≡ world_of cs ss ks cl sl m
+server-stays cs ss ks ks' cl sl sl' m i y y' at is_y is_k is_l = λ t. record {
+  clients = map client_of cs;
+  servers = (set-map server_of ss i y' ∙ ap (slice_set (map server_of ss) i) is_y ∙ set-same (map server_of ss) i (server_of y) (At-map server_of ss i y at)) t;
+  circuits = is_k t;
+  client_logs = cl;
+  server_logs = is_l t;
+  moment = m;
+}
 
-pub no-ends-here : (cs : List ClientSide) (ss : List ServerSide) (ks ls : List Joined) (c s k : ℕ) → c ≡ length cs → s ≡ length ss → ls ≡ ks → NoEnds c s ls k → NoEnds (length cs) (length ss) ks k
-no-ends-here cs ss ks ls c s k is_c is_s is a =
-    subst (λ (z : ℕ × (ℕ × List Joined)). NoEnds z.0 z.1.0 z.1.1 k) (λ t. (is_c t, (is_s t, is t))) a
+-- the ends that were found among lists that are these
+pub ends-here : (cs : List ClientSide) (ss : List ServerSide) (ks : List Joined) (xs : List ClientSide) (ys : List ServerSide) (ls : List Joined) (k : ℕ) (e : Ends) → xs ≡ cs → ys ≡ ss → ls ≡ ks → AreEnds (length xs) (length ys) ls k e → AreEnds (length cs) (length ss) ks k e
+ends-here cs ss ks xs ys ls k e is_c is_s is a =
+    subst (λ (z : List ClientSide × (List ServerSide × List Joined)). AreEnds (length z.0) (length z.1.0) z.1.1 k e) (λ t. (is_c t, (is_s t, is t))) a
+
+pub no-ends-here : (cs : List ClientSide) (ss : List ServerSide) (ks : List Joined) (xs : List ClientSide) (ys : List ServerSide) (ls : List Joined) (k : ℕ) → xs ≡ cs → ys ≡ ss → ls ≡ ks → NoEnds (length xs) (length ys) ls k → NoEnds (length cs) (length ss) ks k
+no-ends-here cs ss ks xs ys ls k is_c is_s is a =
+    subst (λ (z : List ClientSide × (List ServerSide × List Joined)). NoEnds (length z.0) (length z.1.0) z.1.1 k) (λ t. (is_c t, (is_s t, is t))) a
 
 -- where its client and its server are
 pub ends-client : (c s : ℕ) (ks : List Joined) (k : ℕ) (e : Ends) → AreEnds c s ks k e → e.client < c

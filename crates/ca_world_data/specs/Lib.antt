@@ -20,6 +20,7 @@ pub mod Restarts
 pub mod Withdrawing
 pub mod ServerCuts
 pub mod Reporting
+pub mod EndsWith
 pub mod Numbering
 pub mod Posting
 pub mod Telling

@@ -1,6 +1,7 @@
 -- Working: a value is posted at a server.
 use Rattle.std.specs.Prelude.{ℕ, ◌≡◌, ◌≢◌, ◌⊎◌, Bool, List, Ok, Err, Result, map}
 use Rattle.ca_arena.specs.declared.handle.Handle.{Handle}
+use Rattle.ca_records.specs.Calls.{PostFits}
 use Rattle.ca_text.specs.declared.refusal.Refusal.{Refusal}
 use Rattle.ca_text.specs.declared.refusal.Refusal.TheVariants.{OutOfMemory}
 use Rattle.ca_model.specs.History.{Entry}
@@ -21,7 +22,8 @@ TellsPost i name v mask y ks logs y' ks' logs' =
     Reports i y (map (numbers_posted i y.core name mask) ks)
     (grown y.life (posted_entry (server_of y) name v mask) logs) y' ks' logs'
 
--- A value is posted at server i; the core may refuse it, and nothing changes.
+-- A value is posted at server i; the core may refuse it, and nothing changes. Only one that the
+-- core takes lacks memory.
 abbrev pub PostsAt : (i : ℕ) → (name : List ℕ) → Stored → (mask : ℕ) → ServerSide → List Joined
     → List (List Entry) → Result (Unit {0}) Refusal → ServerSide → List Joined → List (List Entry)
     → Type 0
@@ -32,5 +34,5 @@ PostsAt i name v mask y ks logs (Ok _) y' ks' logs' =
     ⊎ ((e : Refusal) × (e ≢ OutOfMemory) × Posts y.core name v mask gone (Err e) core × (y' ≡ y)
     × (ks' ≡ ks) × (logs' ≡ logs)))
 PostsAt i name v mask y ks logs (Err OutOfMemory) y' ks' logs' =
-    (y' ≡ y) × (ks' ≡ ks) × (logs' ≡ logs)
+    PostFits y.core.records name v.value × (y' ≡ y) × (ks' ≡ ks) × (logs' ≡ logs)
 PostsAt i name v mask y ks logs (Err _) y' ks' logs' = ⊥

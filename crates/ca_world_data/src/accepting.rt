@@ -1,7 +1,7 @@
 //! A circuit that a client wants is accepted by its server. All room is made first, since no core
 //! takes such a call back.
 ghost use Rattle.std.specs.Prelude.{◌≡◌, ◌<◌, ◌≤◌, ◌+◌, [], IfOk, OnOk, length, map};
-ghost use Rattle.std.specs.Prelude.{option_and_then, replicate, slice_set, vec_len};
+ghost use Rattle.std.specs.Prelude.{option_and_then, replicate, slice_set};
 ghost use Rattle.ca_client_core.specs.ForAccepts.{connecting_sent, wanted_in_place};
 ghost use Rattle.ca_client_core.specs.ForHistories.{sending_of};
 ghost use Rattle.ca_queue.specs.Queue.{no_queue};
@@ -35,7 +35,7 @@ ghost use Rattle.ca_world_data.specs.Speaking.{stamped};
 
 use crate::client::{ClientSide, Names};
 use crate::closing::close_client;
-use crate::history::{Cause, Intent, Line, Sent};
+use crate::history::{Cause, Line, Sent};
 use crate::joined::{CircuitHistory, Joined};
 use crate::logs::reserve_lines;
 use crate::room::reserve_list;
@@ -326,13 +326,7 @@ fn connect_side(
             joined.lists.up = up;
         }
         Some(closing) => {
-            tell_all(
-                logs,
-                side.life,
-                Intent::OfCircuit,
-                &side.names,
-                closing.notices,
-            );
+            tell_all(logs, side.life, &side.names, closing.notices);
             close_client(joined, closing.left);
         }
     }

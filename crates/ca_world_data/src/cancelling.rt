@@ -7,13 +7,12 @@ ghost use Rattle.ca_world_data.specs.Seen.{intent_of, joined_of};
 ghost use Rattle.ca_world_data.specs.Unsubscribes.{IsCancelWay, IsReadyToCancel, IsUnready};
 
 use crate::client::ClientSide;
-use crate::found::circuit_of;
 use crate::history::{Ask, Intent, Line};
 use crate::joined::Joined;
 use crate::logs::reserve_lines;
-use crate::way::{reserve_sent, wanted_on};
+use crate::way::{reserve_sent, wanted_on, way_of};
 use ca_arena::Handle;
-use ca_client_core::for_histories::{live_on, subscribed};
+use ca_client_core::for_histories::subscribed;
 use ca_text::Refusal;
 use ca_wire::Wanted;
 
@@ -64,19 +63,12 @@ fn cancel_way(
             wanted: wanted_on(0, handle, 0, 0),
         };
     };
-    match live_on(&side.core, asked.channel) {
-        Some(live) => Cancelling {
-            handle,
-            meant,
-            circuit: circuit_of(&side.circuits, circuits, client, live.circuit),
-            wanted: wanted_on(live.sid, handle, asked.data_type, asked.count),
-        },
-        None => Cancelling {
-            handle,
-            meant,
-            circuit: None,
-            wanted: wanted_on(0, handle, 0, 0),
-        },
+    let way = way_of(client, side, circuits, asked.channel);
+    Cancelling {
+        handle,
+        meant,
+        circuit: way.circuit,
+        wanted: wanted_on(way.sid, handle, asked.data_type, asked.count),
     }
 }
 

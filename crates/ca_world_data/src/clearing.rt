@@ -1,39 +1,18 @@
 //! Where a CLEAR_CHANNEL goes, with room for what a call leaves in the histories.
 ghost use Rattle.std.specs.Prelude.{◌≡◌, MatchResult, map};
-ghost use Rattle.ca_world_data.specs.Clears.{IsClearWay, IsReadyToClear};
+ghost use Rattle.ca_world_data.specs.Clears.{IsReadyToClear};
 ghost use Rattle.ca_world_data.specs.Found.{AreNumbered};
 ghost use Rattle.ca_world_data.specs.Logs.{lines_in};
 ghost use Rattle.ca_world_data.specs.Seen.{client_of, joined_of};
 ghost use Rattle.ca_world_data.specs.Speaking.{IsUnready};
 
 use crate::client::ClientSide;
-use crate::found::circuit_of;
 use crate::history::Line;
 use crate::joined::Joined;
 use crate::logs::reserve_lines;
-use crate::way::{ChannelRoute, reserve_sent};
+use crate::way::{ChannelRoute, reserve_sent, way_of};
 use ca_arena::Handle;
-use ca_client_core::for_histories::live_on;
 use ca_text::Refusal;
-
-// Where the CLEAR_CHANNEL of this channel goes. None does if it is not live.
-fn clear_way(client: usize, side: &ClientSide, circuits: &[Joined], channel: Handle) -> ChannelRoute
-    requires { AreNumbered side.now.circuits.items (map joined_of circuits.now) client }
-    ensures { IsClearWay side.now.core (map joined_of circuits.now) client channel result }
-{
-    match live_on(&side.core, channel) {
-        Some(live) => ChannelRoute {
-            circuit: circuit_of(&side.circuits, circuits, client, live.circuit),
-            sid: live.sid,
-            count: live.count,
-        },
-        None => ChannelRoute {
-            circuit: None,
-            sid: 0,
-            count: 0,
-        },
-    }
-}
 
 /// The handle of a channel, and where its CLEAR_CHANNEL goes, with room for what its end leaves.
 ///
@@ -56,7 +35,7 @@ pub fn prepare_clear(
         return Err(Refusal::BadEvent);
     }
     let handle = side.names.channels[channel];
-    let way = clear_way(client, side, circuits, handle);
+    let way = way_of(client, side, circuits, handle);
     reserve_lines(logs, side.life, side.names.requests.len() + 1)?;
     reserve_sent(circuits, way.circuit, 1)?;
     Ok((handle, way))

@@ -1,9 +1,11 @@
 //! Which client and server a circuit joins, their handles for it, and which of its ends are open.
 //! Looked up by the circuit's number.
-ghost use Rattle.std.specs.Prelude.{MatchOption};
+ghost use Rattle.std.specs.Prelude.{MatchOption, length};
 ghost use Rattle.ca_world_data.specs.Ends.{AreEnds, NoEnds};
 
+use crate::client::ClientSide;
 use crate::joined::Joined;
+use crate::server::ServerSide;
 use ca_arena::Handle;
 
 /// What a circuit joins, and which of its ends are open.
@@ -17,19 +19,25 @@ pub struct Ends {
     pub server_open: bool,
 }
 
-/// The ends of the circuit at this place, among these numbers of clients and servers.
-pub fn ends_at(clients: usize, servers: usize, circuits: &[Joined], circuit: usize) -> Option<Ends>
-    ensures { MatchOption result (NoEnds clients servers circuits.now circuit)
-        (AreEnds clients servers circuits.now circuit) }
+/// The ends of the circuit at this place, if its client and its server are among these.
+pub fn ends_at(
+    clients: &[ClientSide],
+    servers: &[ServerSide],
+    circuits: &[Joined],
+    circuit: usize,
+) -> Option<Ends>
+    ensures { MatchOption result
+        (NoEnds (length clients.now) (length servers.now) circuits.now circuit)
+        (AreEnds (length clients.now) (length servers.now) circuits.now circuit) }
 {
     if circuit >= circuits.len() {
         return None;
     }
     let joined = &circuits[circuit];
-    if joined.client >= clients {
+    if joined.client >= clients.len() {
         return None;
     }
-    if joined.server >= servers {
+    if joined.server >= servers.len() {
         return None;
     }
     Some(Ends {

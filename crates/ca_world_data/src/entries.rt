@@ -25,19 +25,9 @@ pub fn reserve_entries(
     Ok(())
 }
 
-/// Puts entries after those of a life's log, in which there is room.
+/// Puts entries after those of a life's log, in which there is room. The room that there was for
+/// more is still there.
 pub fn push_entries(logs: &mut Vec<Vec<LogEntry>>, life: usize, entries: Vec<LogEntry>)
-    requires { HasRoomFor (length entries.items) life logs.old.items }
-    ensures { entries_in logs.new.items
-        ≡ grown life (map entry_of entries.items) (entries_in logs.old.items) }
-{
-    if life < logs.len() {
-        push_all(&mut logs[life], entries);
-    }
-}
-
-/// Puts entries after those of a life's log. The room that there was for more is still there.
-pub fn push_some(logs: &mut Vec<Vec<LogEntry>>, life: usize, entries: Vec<LogEntry>)
     requires { HasRoomFor (length entries.items) life logs.old.items }
     ensures logged { entries_in logs.new.items
         ≡ grown life (map entry_of entries.items) (entries_in logs.old.items) }

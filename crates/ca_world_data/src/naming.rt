@@ -60,7 +60,8 @@ fn meant_near(named: &[(Handle, Intent)], place: usize, handle: Handle) -> Inten
     meant_by(named, handle)
 }
 
-fn is_same(a: Handle, b: Handle) -> bool
+/// Whether both are one handle.
+pub fn is_same(a: Handle, b: Handle) -> bool
     ensures { result ≡ same_handle a b }
 {
     a.index == b.index && a.generation == b.generation

@@ -1,7 +1,7 @@
 //! How clients and servers begin, at the start of a world and after a restart: the core, the first
 //! log entries, and the records.
 ghost use Rattle.std.specs.Prelude.{◌≡◌, [], IfOk, OnOk, length, map, option_map};
-ghost use Rattle.ca_model.specs.World.{addresses, client_begun, no_names, numbered, record_begun};
+ghost use Rattle.ca_model.specs.World.{client_begun, no_names, numbered, record_begun};
 ghost use Rattle.ca_model.specs.World.{server_begun};
 ghost use Rattle.ca_model.specs.ClientEnds.{new_client};
 ghost use Rattle.ca_model.specs.History.{Added};
@@ -51,17 +51,6 @@ pub fn begin_servers(
         put_server(alloc, &mut servers, &mut logs, setting)?;
     }
     Ok((servers, logs))
-}
-
-/// The addresses of all servers, in order.
-pub fn addresses_of(alloc: Global, servers: &[ServerSetting]) -> Result<Vec<Address>, AllocError>
-    ensures { IfOk result (λ all. all.items ≡ addresses servers.now) }
-{
-    let mut all = Vec::new(alloc);
-    for server in servers {
-        all.push(server.address)?;
-    }
-    Ok(all)
 }
 
 /// A client more, with its log.
@@ -272,7 +261,7 @@ fn rule_again(alloc: Global, rule: &RuleSetting) -> Result<Rule, AllocError>
 }
 
 /// A word, if there is one.
-fn word_again(alloc: Global, word: &Option<Vec<u8>>) -> Result<Option<Vec<u8>>, AllocError>
+pub fn word_again(alloc: Global, word: &Option<Vec<u8>>) -> Result<Option<Vec<u8>>, AllocError>
     ensures { IfOk result (λ copy.
         option_map (λ v. v.items) copy ≡ option_map (λ v. v.items) word.now) }
 {

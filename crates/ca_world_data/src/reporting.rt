@@ -1,10 +1,13 @@
 //! Ends of circuits at a server that ended in a call of its core, which did not report them: they
 //! are reported at once.
-ghost use Rattle.std.specs.Prelude.{◌≡◌, ◌++◌, ◌+◌, ◌<◌, ◌≤◌, IfOk, MatchOption, OnOk, Some};
-ghost use Rattle.std.specs.Prelude.{filter, is_some, length, map, not, vec_capacity, vec_len};
-ghost use Rattle.ca_ids.specs.Table.{under, with_freed};
+ghost use Rattle.std.specs.Prelude.{[], ◌≡◌, ◌++◌, ◌+◌, ◌<◌, ◌≤◌, ◌==◌, ◌&&◌, IfOk, OnOk, Some};
+ghost use Rattle.std.specs.Prelude.{MatchOption, filter, is_some, length, map, not, vec_capacity};
+ghost use Rattle.std.specs.Prelude.{vec_len};
+ghost use Rattle.ca_ids.specs.Table.{same_handle, under, with_freed};
+ghost use Rattle.ca_model.specs.ServerEvents.{ends_at};
 ghost use Rattle.ca_model.specs.ServerEvents as world;
 ghost use Rattle.ca_model.specs.World.{grown};
+ghost use Rattle.ca_world_data.specs.EndsWith.{ReportsWith, closed_under, ends_under, gone_with};
 ghost use Rattle.ca_world_data.specs.Opening.{entries_in};
 ghost use Rattle.ca_world_data.specs.Reporting.{AreServed, IsServed, IsUnserved, Quits, Reports};
 ghost use Rattle.ca_world_data.specs.Reporting.{ReportsAt, all_gone, gone_at, gone_of, waits};
@@ -15,6 +18,7 @@ use crate::closing::close_server;
 use crate::entries::reserve_entries;
 use crate::history::LogEntry;
 use crate::joined::Joined;
+use crate::naming::is_same;
 use crate::server::{PutPlace, RecordSide, ServerSide};
 use ca_arena::Handle;
 use ca_server_core::for_histories::{ended_at, has_ended, places};
@@ -75,31 +79,157 @@ pub fn report_ends(
         (map joined_of circuits.new.items)
         (entries_in logs.new.items) }
 {
-    tell_gone(server, &side.core, circuits, &side.records, logs, side.life);
-    withdraw_gone(server, &side.core, circuits, &mut side.records);
+    withdraw_all(
+        server,
+        None,
+        &side.core,
+        circuits,
+        &mut side.records,
+        logs,
+        side.life,
+    );
     close_gone(alloc, server, &mut side.core, &side.circuits, circuits);
 }
 
+/// A step of this server's core closed the end under this handle, with these bytes left. Its
+/// circuit ends, and so does each whose end ended in the same step, which is reported: the puts
+/// that wait on them are withdrawn, record by record. There is room in the log.
+pub fn report_ends_with(
+    alloc: Global,
+    server: usize,
+    side: &mut ServerSide,
+    circuits: &mut Vec<Joined>,
+    logs: &mut Vec<Vec<LogEntry>>,
+    handle: Handle,
+    left: Pipe,
+)
+    requires room { HasRoomFor (waits side.old.records.items) side.old.life logs.old.items }
+    requires served { AreServed
+        side.old.circuits.items
+        (map joined_of circuits.old.items)
+        server }
+    ensures { ReportsWith
+        handle
+        left
+        server
+        side.old
+        (map joined_of circuits.old.items)
+        (entries_in logs.old.items)
+        side.new
+        (map joined_of circuits.new.items)
+        (entries_in logs.new.items) }
+{
+    withdraw_all(
+        server,
+        Some(handle),
+        &side.core,
+        circuits,
+        &mut side.records,
+        logs,
+        side.life,
+    );
+    close_under(alloc, server, handle, left, &side.circuits, circuits);
+    close_gone(alloc, server, &mut side.core, &side.circuits, circuits);
+}
+
+// The puts that wait on circuits that end are withdrawn, and the log of a life has that. Those end
+// that ended in a call of the core, and the one that is closed under a handle, if one is.
+fn withdraw_all(
+    server: usize,
+    closed: Option<Handle>,
+    core: &ServerCore,
+    circuits: &[Joined],
+    records: &mut Vec<RecordSide>,
+    logs: &mut Vec<Vec<LogEntry>>,
+    life: usize,
+)
+    requires { HasRoomFor (waits records.old.items) life logs.old.items }
+    ensures logged { entries_in logs.new.items
+        ≡ grown
+        life
+        (world.withdrawals
+        (gone_with closed server core.now (map joined_of circuits.now))
+        (map record_of records.old.items))
+        (entries_in logs.old.items) }
+    ensures kept { map record_of records.new.items
+        ≡ map
+        (world.without_puts (gone_with closed server core.now (map joined_of circuits.now)))
+        (map record_of records.old.items) }
+{
+    tell_gone(server, closed, core, circuits, records, logs, life);
+    withdraw_gone(server, closed, core, circuits, records);
+}
+
+// Whether the end of this circuit at the server is the one that is closed, or has ended.
+fn is_gone(
+    server: usize,
+    closed: Option<Handle>,
+    core: &ServerCore,
+    circuits: &[Joined],
+    circuit: usize,
+) -> bool
+    ensures { result ≡ gone_with closed server core.now (map joined_of circuits.now) circuit }
+{
+    match closed {
+        Some(handle) => goes_under(server, handle, core, circuits, circuit),
+        None => goes(server, core, circuits, circuit),
+    }
+}
+
+// Whether the end of this circuit at the server is the one under the handle, or has ended.
+fn goes_under(
+    server: usize,
+    handle: Handle,
+    core: &ServerCore,
+    circuits: &[Joined],
+    circuit: usize,
+) -> bool
+    ensures { result
+        ≡ ends_at (ends_under handle [] server core.now) (map joined_of circuits.now) circuit }
+{
+    if circuit >= circuits.len() {
+        return false;
+    }
+    ends_now(server, handle, core, &circuits[circuit])
+}
+
+// Whether this circuit's end at this server is the one under the handle, or has ended.
+fn ends_now(server: usize, handle: Handle, core: &ServerCore, joined: &Joined) -> bool
+    ensures { result ≡ is_some (ends_under handle [] server core.now (joined_of joined.now)) }
+{
+    is_under(server, handle, joined) || has_quit(server, core, joined)
+}
+
+// Whether the circuit's open end at this server is the one under the handle.
+fn is_under(server: usize, handle: Handle, joined: &Joined) -> bool
+    ensures { result
+        ≡ (same_handle joined.now.at_server handle
+        && (joined.now.server == server && joined.now.lists.server_open)) }
+{
+    is_same(joined.at_server, handle) && (joined.server == server && joined.lists.server_open)
+}
+
 // Whether the end of this circuit at the server has ended.
-fn is_gone(server: usize, core: &ServerCore, circuits: &[Joined], circuit: usize) -> bool
+fn goes(server: usize, core: &ServerCore, circuits: &[Joined], circuit: usize) -> bool
     ensures { result ≡ gone_at server core.now (map joined_of circuits.now) circuit }
 {
     if circuit >= circuits.len() {
         return false;
     }
-    ends_now(server, core, &circuits[circuit])
+    has_quit(server, core, &circuits[circuit])
 }
 
 // Whether this circuit's end at this server has ended.
-fn ends_now(server: usize, core: &ServerCore, joined: &Joined) -> bool
+fn has_quit(server: usize, core: &ServerCore, joined: &Joined) -> bool
     ensures { result ≡ is_some (world.ends_by server core.now (joined_of joined.now)) }
 {
     joined.server == server && joined.lists.server_open && has_ended(core, joined.at_server)
 }
 
-// Tells the log of a life that the puts which wait on circuits that ended are withdrawn.
+// Tells the log of a life that the puts which wait on these circuits are withdrawn.
 fn tell_gone(
     server: usize,
+    closed: Option<Handle>,
     core: &ServerCore,
     circuits: &[Joined],
     records: &[RecordSide],
@@ -110,18 +240,20 @@ fn tell_gone(
     ensures { entries_in logs.new.items
         ≡ grown
         life
-        (world.withdrawals (gone_at server core.now (map joined_of circuits.now))
+        (world.withdrawals
+        (gone_with closed server core.now (map joined_of circuits.now))
         (map record_of records.now))
         (entries_in logs.old.items) }
 {
     if life < logs.len() {
-        tell_in(server, core, circuits, records, &mut logs[life]);
+        tell_in(server, closed, core, circuits, records, &mut logs[life]);
     }
 }
 
 // Tells the same in the log itself.
 fn tell_in(
     server: usize,
+    closed: Option<Handle>,
     core: &ServerCore,
     circuits: &[Joined],
     records: &[RecordSide],
@@ -130,16 +262,19 @@ fn tell_in(
     requires { vec_len log.old + waits records.now ≤ vec_capacity log.old }
     ensures { map entry_of log.new.items
         ≡ map entry_of log.old.items
-        ++ all_gone (gone_at server core.now (map joined_of circuits.now)) records.now }
+        ++ all_gone
+        (gone_with closed server core.now (map joined_of circuits.now))
+        records.now }
 {
     for record in records {
-        tell_of(server, core, circuits, &record.waiting, log);
+        tell_of(server, closed, core, circuits, &record.waiting, log);
     }
 }
 
 // Tells the same of the puts of one record.
 fn tell_of(
     server: usize,
+    closed: Option<Handle>,
     core: &ServerCore,
     circuits: &[Joined],
     waiting: &[PutPlace],
@@ -148,37 +283,70 @@ fn tell_of(
     requires { vec_len log.old + length waiting.now ≤ vec_capacity log.old }
     ensures told { map entry_of log.new.items
         ≡ map entry_of log.old.items
-        ++ gone_of (gone_at server core.now (map joined_of circuits.now)) waiting.now }
+        ++ gone_of
+        (gone_with closed server core.now (map joined_of circuits.now))
+        waiting.now }
     ensures len { vec_len log.new ≤ vec_len log.old + length waiting.now }
     ensures capacity { vec_capacity log.new ≡ vec_capacity log.old }
 {
     for put in waiting {
-        if is_gone(server, core, circuits, put.circuit) {
+        if is_gone(server, closed, core, circuits, put.circuit) {
             log.push_reserved(LogEntry::Withdrawn(put.circuit, put.place));
         }
     }
 }
 
-// Withdraws the puts that wait on circuits that ended.
-fn withdraw_gone(server: usize, core: &ServerCore, circuits: &[Joined], records: &mut [RecordSide])
+// Withdraws the puts that wait on these circuits.
+fn withdraw_gone(
+    server: usize,
+    closed: Option<Handle>,
+    core: &ServerCore,
+    circuits: &[Joined],
+    records: &mut [RecordSide],
+)
     ensures { map record_of records.new
         ≡ map
-        (world.without_puts (gone_at server core.now (map joined_of circuits.now)))
+        (world.without_puts (gone_with closed server core.now (map joined_of circuits.now)))
         (map record_of records.old) }
 {
     for record in records.iter_mut() {
-        withdraw_from(server, core, circuits, &mut record.waiting);
+        withdraw_from(server, closed, core, circuits, &mut record.waiting);
     }
 }
 
-// Takes the puts on circuits that ended out.
-fn withdraw_from(server: usize, core: &ServerCore, circuits: &[Joined], waiting: &mut Vec<PutPlace>)
+// Takes the puts on these circuits out.
+fn withdraw_from(
+    server: usize,
+    closed: Option<Handle>,
+    core: &ServerCore,
+    circuits: &[Joined],
+    waiting: &mut Vec<PutPlace>,
+)
     ensures { waiting.new.items
         ≡ filter
-        (λ p. not (gone_at server core.now (map joined_of circuits.now) p.circuit))
+        (λ p. not (gone_with closed server core.now (map joined_of circuits.now) p.circuit))
         waiting.old.items }
 {
-    waiting.retain(|put| !is_gone(server, core, circuits, put.circuit));
+    waiting.retain(|put| !is_gone(server, closed, core, circuits, put.circuit));
+}
+
+// The circuit that is open at this server under the handle ends, and leaves these bytes.
+fn close_under(
+    alloc: Global,
+    server: usize,
+    handle: Handle,
+    left: Pipe,
+    numbers: &[usize],
+    circuits: &mut Vec<Joined>,
+)
+    requires { AreServed numbers.now (map joined_of circuits.old.items) server }
+    ensures { map joined_of circuits.new.items
+        ≡ map (closed_under handle left server) (map joined_of circuits.old.items) }
+{
+    let Some(number) = served_on(numbers, circuits, server, handle) else {
+        return;
+    };
+    close_server(alloc, &mut circuits[number], left);
 }
 
 // Reports all ends that ended, and ends their circuits.
@@ -243,9 +411,9 @@ fn left_of(alloc: Global, core: &mut ServerCore, circuit: Handle) -> Pipe
     }
 }
 
-/// The number of the circuit that is open at this server under this handle, by
-/// the server's numbers.
-pub fn served_on(
+// The number of the circuit that is open at this server under this handle, by the server's
+// numbers.
+fn served_on(
     numbers: &[usize],
     circuits: &[Joined],
     server: usize,

@@ -13,7 +13,7 @@ ghost use Rattle.ca_world_data.specs.Silencing.{EndsAt, silenced};
 use crate::client::ClientSide;
 use crate::closing::close_client;
 use crate::found::circuit_of;
-use crate::history::{Intent, Line};
+use crate::history::Line;
 use crate::joined::Joined;
 use crate::telling::tell_all;
 use ca_client_core::Left;
@@ -74,7 +74,7 @@ fn end_silent(
         bytes,
     } = left;
     let number = circuit_of(&side.circuits, circuits, client, circuit);
-    tell_all(logs, side.life, Intent::OfCircuit, &side.names, notices);
+    tell_all(logs, side.life, &side.names, notices);
     end_at(circuits, number, bytes);
 }
 

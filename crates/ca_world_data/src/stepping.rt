@@ -149,13 +149,7 @@ fn end(
         (lines_in logs.new.items)
         (map joined_of circuits.new.items) }
 {
-    tell_all(
-        logs,
-        side.life,
-        Intent::OfCircuit,
-        &side.names,
-        closing.notices,
-    );
+    tell_all(logs, side.life, &side.names, closing.notices);
     close_client(&mut circuits[circuit], closing.left);
 }
 

@@ -1,6 +1,5 @@
 //! A moment is handed to a client of the world.
-ghost use Rattle.std.specs.Prelude.{◌≡◌, ◌≢◌, ◌+◌, ◌≤◌, [], OnErr, OnOk, false, length, map, true};
-ghost use Rattle.ca_client_core.specs.ForHistories.{sending_of};
+ghost use Rattle.std.specs.Prelude.{◌≡◌, ◌≢◌, ◌+◌, [], OnErr, OnOk, false, length, map, true};
 ghost use Rattle.ca_client_core.specs.Ticked.{lefts_of, notices_of};
 ghost use Rattle.ca_model.specs.History.{OfCircuit};
 ghost use Rattle.ca_model.specs.ClientEvents.{after_tick, lines_of};
@@ -9,7 +8,6 @@ ghost use Rattle.ca_world_data.specs.Found.{AreNumbered};
 ghost use Rattle.ca_world_data.specs.Logs.{HasRoom, lines_in};
 ghost use Rattle.ca_world_data.specs.Seen.{client_of, joined_of, names_of};
 ghost use Rattle.ca_world_data.specs.Sends.{HasRoomForAll};
-ghost use Rattle.ca_world_data.specs.Speaking.{sent_up};
 ghost use Rattle.ca_world_data.specs.Ticks.{TellsFew, TicksClient};
 
 use crate::client::ClientSide;

@@ -1,6 +1,6 @@
 //! Updates that left a server's queues, read off the bytes that they became, into memory that was
 //! made before they left.
-ghost use Rattle.std.specs.Prelude.{ℕ, ◌≡◌, ◌+◌, ◌<◌, ◌≤◌, ◌^◌, ◌∷◌, IfOk, List, OnErr, false};
+ghost use Rattle.std.specs.Prelude.{◌≡◌, ◌+◌, ◌<◌, ◌≤◌, ◌^◌, ◌∷◌, IfOk, List, OnErr, false};
 ghost use Rattle.std.specs.Prelude.{length, map, true};
 ghost use Rattle.ca_queue.specs.Circuit.{RestBefore, Takes};
 ghost use Rattle.ca_queue.specs.Queue.{Queue};

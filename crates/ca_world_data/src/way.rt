@@ -1,15 +1,17 @@
 //! Where a client's messages on a channel go, with room for what a call leaves in the histories.
 ghost use Rattle.std.specs.Prelude.{◌≡◌, ◌+◌, ◌≤◌, MatchResult, OnOk, map, vec_capacity, vec_len};
 ghost use Rattle.ca_ids.specs.Wire.{wire_of};
+ghost use Rattle.ca_world_data.specs.Clears.{IsClearWay};
 ghost use Rattle.ca_world_data.specs.Found.{AreNumbered};
-ghost use Rattle.ca_world_data.specs.Logs.{HasRoom, lines_in};
-ghost use Rattle.ca_world_data.specs.Seen.{client_of, joined_of, sent_of};
+ghost use Rattle.ca_world_data.specs.Logs.{lines_in};
+ghost use Rattle.ca_world_data.specs.Seen.{client_of, intent_of, joined_of, sent_of};
+ghost use Rattle.ca_world_data.specs.Sends.{KeepsRoom, LeavesRoom};
 ghost use Rattle.ca_world_data.specs.Speaking.{GoesUp, HasRoomUp, IsReady, IsUnready, IsWay};
 ghost use Rattle.ca_world_data.specs.Speaking.{with_up};
 
 use crate::client::ClientSide;
 use crate::found::circuit_of;
-use crate::history::{Line, Sent};
+use crate::history::{Intent, Line, Sent};
 use crate::joined::Joined;
 use crate::logs::reserve_lines;
 use crate::room::reserve_list;
@@ -17,7 +19,7 @@ use ca_arena::Handle;
 use ca_client_core::for_histories::live_on;
 use ca_ids::WireId;
 use ca_text::Refusal;
-use ca_wire::{Ioid, Sid, Wanted};
+use ca_wire::{Ioid, Message, Sid, Wanted};
 use std::alloc::AllocError;
 
 /// Where messages on a channel go: on which circuit of the world, under which SID, and with how
@@ -29,15 +31,16 @@ pub struct ChannelRoute {
     pub count: u32,
 }
 
-/// Where messages on this channel go, if it is live.
-pub fn way_of(
+/// Where messages on this channel go. None goes if it is not live.
+pub(crate) fn way_of(
     client: usize,
     side: &ClientSide,
     circuits: &[Joined],
     channel: Handle,
 ) -> ChannelRoute
     requires { AreNumbered side.now.circuits.items (map joined_of circuits.now) client }
-    ensures { IsWay side.now.core (map joined_of circuits.now) client channel result }
+    ensures way { IsWay side.now.core (map joined_of circuits.now) client channel result }
+    ensures clear { IsClearWay side.now.core (map joined_of circuits.now) client channel result }
 {
     match live_on(&side.core, channel) {
         Some(live) => ChannelRoute {
@@ -66,14 +69,16 @@ pub fn wanted_on(sid: u32, id: Handle, data_type: u16, count: u32) -> Wanted
     }
 }
 
-/// Makes room for n more messages of the client on a circuit, if there is one.
-pub fn reserve_sent(
+/// Makes room for n more messages of the client on a circuit, if there is one. No circuit has less
+/// room than before.
+pub(crate) fn reserve_sent(
     circuits: &mut Vec<Joined>,
     circuit: Option<usize>,
     messages: usize,
 ) -> Result<(), AllocError>
     ensures same { map joined_of circuits.new.items ≡ map joined_of circuits.old.items }
     ensures room { OnOk result (HasRoomUp messages circuit circuits.new.items) }
+    ensures keeps { KeepsRoom circuits.old.items circuits.new.items }
 {
     let Some(number) = circuit else {
         return Ok(());
@@ -89,31 +94,41 @@ fn reserve_up(joined: &mut Joined, messages: usize) -> Result<(), AllocError>
     ensures same { joined_of joined.new ≡ joined_of joined.old }
     ensures room { OnOk result (vec_len joined.new.lists.up + messages
         ≤ vec_capacity joined.new.lists.up) }
+    ensures len { vec_len joined.new.lists.up ≡ vec_len joined.old.lists.up }
+    ensures capacity { vec_capacity joined.old.lists.up ≤ vec_capacity joined.new.lists.up }
 {
     reserve_list(&mut joined.lists.up, messages)
 }
 
 /// Puts a message after those of the client on a circuit, if there is one. There is room for it.
-pub fn push_sent(circuits: &mut Vec<Joined>, circuit: Option<usize>, sent: Sent)
+pub fn push_sent(
+    circuits: &mut Vec<Joined>,
+    circuit: Option<usize>,
+    message: Message,
+    intent: Intent,
+)
     requires { HasRoomUp 1 circuit circuits.old.items }
-    ensures { GoesUp
+    ensures goes { GoesUp
         circuit
-        (sent_of sent)
+        (record { message = message; intent = intent_of intent })
         (map joined_of circuits.old.items)
         (map joined_of circuits.new.items) }
+    ensures leaves { LeavesRoom circuit circuits.old.items circuits.new.items }
 {
     let Some(number) = circuit else {
         return;
     };
     if number < circuits.len() {
-        push_up(&mut circuits[number], sent);
+        push_up(&mut circuits[number], Sent { message, intent });
     }
 }
 
 // Puts a message after those of the client. There is room for it.
 fn push_up(joined: &mut Joined, sent: Sent)
     requires { vec_len joined.old.lists.up + 1 ≤ vec_capacity joined.old.lists.up }
-    ensures { joined_of joined.new ≡ with_up (sent_of sent) (joined_of joined.old) }
+    ensures up { joined_of joined.new ≡ with_up (sent_of sent) (joined_of joined.old) }
+    ensures len { vec_len joined.new.lists.up ≡ vec_len joined.old.lists.up + 1 }
+    ensures capacity { vec_capacity joined.new.lists.up ≡ vec_capacity joined.old.lists.up }
 {
     joined.lists.up.push_reserved(sent);
 }

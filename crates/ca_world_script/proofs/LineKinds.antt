@@ -9,7 +9,7 @@ use Rattle.ca_events.specs.Events.{event_of}
 use Rattle.ca_script.specs.Grammar.{Refuses}
 use Rattle.ca_script.proofs.Sayings.{behind-same}
 use Rattle.ca_script.proofs.Refusals.{NoWord, err-then, refuses-whole, says-none}
-use Rattle.ca_world_script.specs.Events.{Says, SaysPost, verb_word}
+use Rattle.ca_world_script.specs.Events.{SaysPost, verb_word}
 use Rattle.ca_world_script.specs.Scripts.{Adds, AddsAdd, AddsClient, AddsEvent, AddsPost, AddsServer, AddsTo, Reading}
 use Rattle.ca_world_script.specs.Servers.{TakesLine}
 use Rattle.ca_world_script.specs.declared.verb.Verb.{Verb}
@@ -128,14 +128,6 @@ kind-to a m words e (inr (inr (inr (inl h)))) = two-kinds 3 0 words (λ x. omega
 kind-to a m words e (inr (inr (inr (inr (inl h))))) = two-kinds 3 4 words (λ x. omega (arith, x)) e (post-of a m words h)
 kind-to a m words e (inr (inr (inr (inr (inr h))))) = two-kinds 3 5 words (λ x. omega (arith, x)) e (add-of a m words h)
 
-kind-event : (a m : Reading) (words : List (List ℕ)) → Of 0 words → Adds a words m → AddsEvent a words m
-kind-event a m words e (inl h) = two-kinds 0 1 words (λ x. omega (arith, x)) e (client-of a m words h)
-kind-event a m words e (inr (inl h)) = two-kinds 0 2 words (λ x. omega (arith, x)) e (server-of a m words h)
-kind-event a m words e (inr (inr (inl h))) = two-kinds 0 3 words (λ x. omega (arith, x)) e (to-of a m words h)
-kind-event a m words e (inr (inr (inr (inl h)))) = h
-kind-event a m words e (inr (inr (inr (inr (inl h))))) = two-kinds 0 4 words (λ x. omega (arith, x)) e (post-of a m words h)
-kind-event a m words e (inr (inr (inr (inr (inr h))))) = two-kinds 0 5 words (λ x. omega (arith, x)) e (add-of a m words h)
-
 kind-post : (a m : Reading) (words : List (List ℕ)) → Of 4 words → Adds a words m → AddsPost a words m
 kind-post a m words e (inl h) = two-kinds 4 1 words (λ x. omega (arith, x)) e (client-of a m words h)
 kind-post a m words e (inr (inl h)) = two-kinds 4 2 words (λ x. omega (arith, x)) e (server-of a m words h)
@@ -157,9 +149,6 @@ of-client a m rest words e h = kind-client a m words (begins words rest (codes "
 
 pub of-server : (a m : Reading) (rest words : List (List ℕ)) → words ≡ codes "server" ∷ rest → Adds a words m → AddsServer a words m
 of-server a m rest words e h = kind-server a m words (begins words rest (codes "server") e) h
-
-pub of-post : (a m : Reading) (rest words : List (List ℕ)) → words ≡ codes "post" ∷ rest → Adds a words m → AddsPost a words m
-of-post a m rest words e h = kind-post a m words (begins words rest (codes "post") e) h
 
 pub of-add : (a m : Reading) (rest words : List (List ℕ)) → words ≡ codes "add" ∷ rest → Adds a words m → AddsAdd a words m
 of-add a m rest words e h = kind-add a m words (begins words rest (codes "add") e) h
@@ -189,17 +178,6 @@ no-line a words m nay (inr (inr (inr (inr (inr h))))) = nay (codes "add") h.behi
 pub line-refused : (a : Reading) (words : List (List ℕ)) (e : Refusal) → (e ≡ BadText) × NoWord words → Refuses (Adds a words) e
 line-refused a words e nay = says-none (Adds a words) e nay.0 (λ (m : Reading) (h : Adds a words m). no-line a words m nay.1 h)
 
--- a line of an event that says none
-pub event-refused : (a : Reading) (words rest : List (List ℕ)) (v : Verb) (e : Refusal) → words ≡ verb_word v ∷ rest → ((u w : Verb) → verb_word u ≡ verb_word w → u ≡ w) → Refuses (Says v rest) e → Refuses (Adds a words) e
-event-refused a words rest v e are one nay =
-    refuses-whole (Says v rest) (Adds a words) e
-    (λ (m : Reading) (h : Adds a words m).
-    let k = kind-event a m words (begins words rest (verb_word v) are ∙ event-kind v) h in
-    let verb : k.verb ≡ v = one k.verb v (ap (λ (ws : List (List ℕ)). first ws) (sym k.are ∙ are)) in
-    let behind : k.behind ≡ rest = behind-same (verb_word k.verb) (verb_word v) k.behind rest words k.are are in
-    (event_of k.event, subst (λ (p : Verb × List (List ℕ)). Says p.0 p.1 (event_of k.event)) (λ i. (verb i, behind i)) k.says))
-    nay
-
 -- a post that says none
 pub post-refused : (a : Reading) (words rest : List (List ℕ)) (w : List ℕ) (e : Refusal) → words ≡ w ∷ rest → w ≡ codes "post" → Refuses (SaysPost a.servers a.added rest) e → Refuses (Adds a words) e
 post-refused a words rest w e are is nay =
@@ -209,34 +187,3 @@ post-refused a words rest w e are is nay =
     let behind : k.behind ≡ rest = behind-same (codes "post") w k.behind rest words k.are are in
     (event_of k.event, subst (λ (ws : List (List ℕ)). SaysPost a.servers a.added ws (event_of k.event)) behind k.says))
     nay
-
--- the verb of a word
-abbrev verb_at : List ℕ → Verb
-verb_at w = if bytes_eq w (codes "open") then verb.Open else if bytes_eq w (codes "clear") then verb.Clear else if bytes_eq w (codes "read") then verb.Read else if bytes_eq w (codes "write") then verb.Write else if bytes_eq w (codes "write_notify") then verb.WriteNotify else if bytes_eq w (codes "subscribe") then verb.Subscribe else if bytes_eq w (codes "unsubscribe") then verb.Unsubscribe else if bytes_eq w (codes "collect") then verb.Collect else if bytes_eq w (codes "give_up") then verb.GiveUp else if bytes_eq w (codes "dgram") then verb.Datagram else if bytes_eq w (codes "accept") then verb.Accept else if bytes_eq w (codes "up") then verb.Up else if bytes_eq w (codes "down") then verb.Down else if bytes_eq w (codes "sstep") then verb.ServerStep else if bytes_eq w (codes "cstep") then verb.ClientStep else if bytes_eq w (codes "pump") then verb.Pump else if bytes_eq w (codes "cut") then verb.Cut else if bytes_eq w (codes "crestart") then verb.ClientRestart else if bytes_eq w (codes "srestart") then verb.ServerRestart else if bytes_eq w (codes "finish") then verb.Finish else if bytes_eq w (codes "remove") then verb.Remove else verb.Tick
-
-verb-at : (v : Verb) → verb_at (verb_word v) ≡ v
-verb-at verb.Open = refl
-verb-at verb.Clear = refl
-verb-at verb.Read = refl
-verb-at verb.Write = refl
-verb-at verb.WriteNotify = refl
-verb-at verb.Subscribe = refl
-verb-at verb.Unsubscribe = refl
-verb-at verb.Collect = refl
-verb-at verb.GiveUp = refl
-verb-at verb.Datagram = refl
-verb-at verb.Accept = refl
-verb-at verb.Up = refl
-verb-at verb.Down = refl
-verb-at verb.ServerStep = refl
-verb-at verb.ClientStep = refl
-verb-at verb.Pump = refl
-verb-at verb.Cut = refl
-verb-at verb.ClientRestart = refl
-verb-at verb.ServerRestart = refl
-verb-at verb.Finish = refl
-verb-at verb.Remove = refl
-verb-at verb.Tick = refl
-
-pub one-verb : (u w : Verb) → verb_word u ≡ verb_word w → u ≡ w
-one-verb u w h = sym (verb-at u) ∙ ap (λ (x : List ℕ). verb_at x) h ∙ verb-at w

@@ -1,20 +1,9 @@
 -- One number more.
-use Rattle.std.proofs.Common.{◌≡◌, ℕ, zero, suc, ◌+◌, List, [], ◌∷◌, ◌++◌, sym, ap, ◌∙◌, arith}
+use Rattle.std.proofs.Common.{◌≡◌, ℕ, ◌+◌, List, [], ◌∷◌, ◌++◌, sym, ap, ◌∙◌}
 use Rattle.std.proofs.lemmas.Grind.{flat_map-append}
 use Rattle.std.proofs.lemmas.List.{append-nil}
 use Rattle.std.specs.List.{flat_map, range_with_len}
-
-range-next : (from n : ℕ) → range_with_len from (suc n) ≡ range_with_len from n ++ (from + n) ∷ []
-range-next from zero = let e : from ≡ from + 0 = omega arith in ap (λ (k : ℕ). k ∷ []) e
-range-next from (suc n) =
-    let e : from + 1 + n ≡ from + suc n = omega arith in
-    ap (λ (l : List ℕ). from ∷ l) (range-next (from + 1) n ∙ ap (λ (k : ℕ). range_with_len (from + 1) n ++ k ∷ []) e)
-
-range-more : (n : ℕ) → range_with_len 0 (n + 1) ≡ range_with_len 0 n ++ n ∷ []
-range-more n =
-    let e : n + 1 ≡ suc n = omega arith in
-    let z : 0 + n ≡ n = omega arith in
-    ap (λ (k : ℕ). range_with_len 0 k) e ∙ range-next 0 n ∙ ap (λ (k : ℕ). range_with_len 0 n ++ k ∷ []) z
+use Rattle.ca_world_data.proofs.Ranges.{range-more}
 
 -- what is put after the texts of the first n is the text of the next
 pub texts-more : (f : ℕ → List ℕ) (n : ℕ) (a b : List ℕ) → a ≡ flat_map f (range_with_len 0 n) → b ≡ a ++ f n → b ≡ flat_map f (range_with_len 0 (n + 1))

@@ -1,5 +1,5 @@
 -- Words are one address, and a record has one type.
-use Rattle.std.proofs.Common.{◌≡◌, ℕ, ◌≤◌, arith, length, List, [], ◌∷◌, inl, inr, Some, None, refl, sym, ap, ◌∙◌, subst}
+use Rattle.std.proofs.Common.{◌≡◌, ℕ, List, [], ◌∷◌, inl, inr, None, refl, sym, ap, ◌∙◌, subst}
 use Rattle.std.specs.Int.{from_be_bytes, w32}
 use Rattle.ca_dbr.specs.Elements.{base_of}
 use Rattle.ca_dbr.specs.declared.data_type.BaseType.{BaseType}
@@ -7,7 +7,7 @@ use Rattle.ca_model.specs.Ends.{Address}
 use Rattle.ca_records.specs.Records.{AreApart, IsServed, Names}
 use Rattle.ca_records.specs.Record.{RecordState}
 use Rattle.ca_text.specs.Place.{At}
-use Rattle.ca_text.proofs.Places.{At-one, At-within}
+use Rattle.ca_text.proofs.Places.{At-one}
 use Rattle.ca_script.specs.Grammar.{AreNumbers, IsNumber, parted}
 use Rattle.ca_script.specs.Lines as lines
 use Rattle.ca_script.specs.Lines.{AreEach, SaysServer}
@@ -55,10 +55,6 @@ same-addresses (w ∷ ws) [] ys a b = absurd a
 same-addresses (w ∷ ws) (x ∷ xs) [] a b = absurd b
 same-addresses (w ∷ ws) (x ∷ xs) (y ∷ ys) a b = λ i. same-address w x y a.1 b.1 i ∷ same-addresses ws xs ys a.2 b.2 i
 
-pub type-added : (servers : List ServerSetting) (added : Added) (server : ℕ) (name : List ℕ) (b c : BaseType) → added server name ≡ Some b → HasType servers added server name c → c ≡ b
-type-added servers added server name b c is (inl h) = cc
-type-added servers added server name b c is (inr h) = absurd cc
-
 pub type-recorded : (servers : List ServerSetting) (added : Added) (server : ℕ) (name : List ℕ) (c : BaseType) → added server name ≡ None → HasType servers added server name c → IsRecorded servers server name c
 type-recorded servers added server name c none (inl h) = absurd cc
 type-recorded servers added server name c none (inr h) = h.1
@@ -90,9 +86,3 @@ none-recorded servers server name line records at same nay b y =
     let own : y.line ≡ line = At-one servers server y.line line y.at at in
     let mine : At records y.place y.is.state = subst (λ (rs : List RecordState). At rs y.place y.is.state) (ap (λ (l : ServerSetting). l.records) own ∙ same) y.is.at in
     nay (y.place, record { state = y.is.state; at = mine; named = y.is.named })
-
--- there is no server of this number
-pub beyond-recorded : (servers : List ServerSetting) (server : ℕ) (name : List ℕ) → length servers ≤ server → (b : BaseType) → IsRecorded servers server name b → ⊥
-beyond-recorded servers server name far b y =
-    let within = At-within servers server y.line y.at in
-    absurd (omega (arith, far, within))

@@ -77,14 +77,6 @@ line-refused old words others server e last nay =
     (h.next, subst (λ (s : ServerSetting). TakesLine s words h.next) mine h.takes))
     nay
 
--- where there is no server
-pub line-alone : (old : Reading) (words : List (List ℕ)) (new : Reading) → old.servers ≡ [] → AddsTo old words new → ⊥
-line-alone old words new none h = nothing-last h.others h.server (sym none ∙ h.last)
-  where
-    nothing-last : (xs : List ServerSetting) (x : ServerSetting) → [] ≡ xs ++ x ∷ [] → ⊥
-    nothing-last [] x e = absurd cc
-    nothing-last (y ∷ ys) x e = absurd cc
-
 -- ---- clients and servers
 
 pub client-refused : (old : Reading) (words : List (List ℕ)) (e : Refusal) → Refuses (SaysClient words) e → Refuses (AddsClient old (codes "client" ∷ words)) e

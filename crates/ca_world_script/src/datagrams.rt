@@ -1,6 +1,5 @@
 //! The lines `dgram` and `cut`, which name an end by `client` or `server`.
-ghost use Rattle.std.specs.Prelude.{◌≡◌, ℕ, List, IfErr, IfOk};
-ghost use Rattle.ca_model.specs.Ends.{Address};
+ghost use Rattle.std.specs.Prelude.{IfErr, IfOk};
 ghost use Rattle.ca_events.specs.Events.{event_of};
 ghost use Rattle.ca_script.specs.Grammar.{Refuses};
 ghost use Rattle.ca_script.specs.Lines.{IsHex};

@@ -1,9 +1,8 @@
 //! The lines of events by their verbs, but for `post` and `add`: one `match` in `read_event`.
-ghost use Rattle.std.specs.Prelude.{◌≡◌, ◌<◌, ℕ, List, IfErr, IfOk, length};
+ghost use Rattle.std.specs.Prelude.{◌<◌, IfErr, IfOk};
 ghost use Rattle.ca_text.specs.declared.refusal.Refusal.TheVariants.{BadText};
-ghost use Rattle.ca_dbr.specs.Elements.{Elements, elements};
+ghost use Rattle.ca_dbr.specs.Elements.{elements};
 ghost use Rattle.ca_events.specs.Events.{event_of};
-ghost use Rattle.ca_model.specs.Events as event;
 ghost use Rattle.ca_script.specs.Grammar.{Refuses};
 ghost use Rattle.ca_world_script.specs.Events.{Says, SaysNamed, SaysOpen, SaysSubscribe};
 ghost use Rattle.ca_world_script.specs.Events.{SaysWritten};

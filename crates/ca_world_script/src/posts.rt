@@ -1,6 +1,6 @@
 //! The lines `post` and `add`. A post does not name its type: that is its record's, by the lines
 //! above it.
-ghost use Rattle.std.specs.Prelude.{◌≡◌, ◌<◌, ℕ, List, IfErr, IfOk, IfSome, MatchOption, length};
+ghost use Rattle.std.specs.Prelude.{◌≡◌, ◌<◌, ℕ, IfErr, IfOk, IfSome, MatchOption, length};
 ghost use Rattle.ca_text.specs.Place.{At};
 ghost use Rattle.ca_text.specs.declared.refusal.Refusal.TheVariants.{BadText};
 ghost use Rattle.ca_dbr.specs.declared.data_type.BaseType.{BaseType};

@@ -1,6 +1,6 @@
 //! A script, line by line: clients, then servers, each with its records and rules, then events.
 //! What may come after what is judged here; the words of a line are mostly read in other files.
-ghost use Rattle.std.specs.Prelude.{◌≢◌, ◌∷◌, List, ℕ, IfErr, IfOk, OnErr, OnOk, codes, length};
+ghost use Rattle.std.specs.Prelude.{◌≢◌, ◌∷◌, IfErr, IfOk, OnErr, OnOk, codes, length};
 ghost use Rattle.ca_script.specs.Grammar.{Refuses, parted};
 ghost use Rattle.ca_world_script.specs.Index.{added_of};
 ghost use Rattle.ca_world_script.specs.Scripts.{Adds, AddsAdd, AddsClient, AddsServer, AddsTo};

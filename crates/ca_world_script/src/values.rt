@@ -1,5 +1,5 @@
 //! Numbers that are types or masks, and the words `client` and `server` for an end of a circuit.
-ghost use Rattle.std.specs.Prelude.{◌≡◌, ℕ, Bool, IfErr, IfOk, MatchOption};
+ghost use Rattle.std.specs.Prelude.{◌≡◌, Bool, IfErr, IfOk};
 ghost use Rattle.ca_text.specs.declared.refusal.Refusal.TheVariants.{BadText};
 ghost use Rattle.ca_dbr.specs.Types.{base_number};
 ghost use Rattle.ca_dbr.specs.declared.data_type.BaseType.{BaseType};

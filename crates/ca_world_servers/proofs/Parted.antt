@@ -18,14 +18,10 @@ use Rattle.ca_world_data.specs.declared.server.PutPlace.{PutPlace as Kept}
 use Rattle.ca_world_data.specs.declared.server.RecordSide.{RecordSide as Side}
 use Rattle.ca_world_data.specs.Seen.{record_of}
 use Rattle.ca_world_data.proofs.Worlds.{set-map}
-use Rattle.ca_world_servers.specs.Parting.{AreBeside, all_gone, all_kept, gone_of, kept_of, places_in, put_if, puts_of, with_kept, withdrawn_at}
+use Rattle.ca_world_data.proofs.Openings.{drop-next}
+use Rattle.ca_world_servers.specs.Parting.{AreBeside, all_gone, all_kept, places_in, put_if, puts_of, with_kept, withdrawn_at}
 
 -- ---- a place of a list
-
-pub drop-here : {A : Type 0} (xs : List A) (i : ℕ) (x : A) → At xs i x → drop i xs ≡ x ∷ drop (i + 1) xs
-drop-here [] i x at = absurd cc
-drop-here (y ∷ xs) zero x at = ap (λ (z : _). z ∷ xs) (some_is y x at)
-drop-here (y ∷ xs) (suc i) x at = (let e : suc i + 1 ≡ suc (i + 1) = omega arith in drop-here xs i x at ∙ ap (λ (k : ℕ). x ∷ drop k (y ∷ xs)) (sym e))
 
 drop-none : {A : Type 0} (xs : List A) (i : ℕ) → slice_get xs i ≡ None → drop i xs ≡ []
 drop-none [] zero is = refl
@@ -67,7 +63,7 @@ aside-next test o ps i b p is at =
     let there = put-there o i b is in
     let w : WaitingPut = there.0 in
     ap (λ (x : Bool). put_if x p ++ rest) (ap test (sym there.2)) ∙ pick (test w.put)
-    ∙ sym (λ t. places_where test (drop-here (puts_of o) i w there.1 t) (drop-here ps i p at t))
+    ∙ sym (λ t. places_where test (drop-next (puts_of o) i w there.1 t) (drop-next ps i p at t))
   where
     rest : List PutPlace
     rest = places_where test (drop (i + 1) (puts_of o)) (drop (i + 1) ps)
@@ -121,34 +117,6 @@ ends-kept kept rest all none is = sym (append-nil kept) ∙ ap (λ (l : List Put
 
 pub ends-told : (told all : List Entry) (rest : List PutPlace) → rest ≡ [] → told ++ map withdrawn_at rest ≡ all → told ≡ all
 ends-told told all rest none is = sym (append-nil told) ∙ ap (λ (l : List PutPlace). told ++ map withdrawn_at l) (sym none) ∙ is
-
--- one more record
-pub parts-kept-next : (core : Server) (h : Handle) (sid : ℕ) (rs : List Side) (i : ℕ) (r : Side) (old new : List (Vec Kept Global)) (v : Vec Kept Global) (all : List (List PutPlace)) → At rs i r → new ≡ old ++ v ∷ []
-    → places_in v ≡ kept_of core h sid (record_of r) → map places_in old ++ all_kept core h sid (map record_of (drop i rs)) ≡ all → map places_in new ++ all_kept core h sid (map record_of (drop (i + 1) rs)) ≡ all
-parts-kept-next core h sid rs i r old new v all at more is before =
-    ap (λ (l : List (Vec Kept Global)). map places_in l ++ rest) more
-    ∙ behind old
-    ∙ ap (λ (ps : List PutPlace). map places_in old ++ ps ∷ rest) is
-    ∙ ap (λ (l : List Side). map places_in old ++ all_kept core h sid (map record_of l)) (sym (drop-here rs i r at))
-    ∙ before
-  where
-    rest : List (List PutPlace)
-    rest = all_kept core h sid (map record_of (drop (i + 1) rs))
-
-    behind : (l : List (Vec Kept Global)) → map places_in (l ++ v ∷ []) ++ rest ≡ map places_in l ++ places_in v ∷ rest
-    behind [] = refl
-    behind (x ∷ l) = ap (λ (t : List (List PutPlace)). places_in x ∷ t) (behind l)
-
-pub parts-told-next : (core : Server) (h : Handle) (sid : ℕ) (rs : List Side) (i : ℕ) (r : Side) (old new all : List Entry) → At rs i r → new ≡ old ++ map withdrawn_at (gone_of core h sid (record_of r))
-    → old ++ all_gone core h sid (map record_of (drop i rs)) ≡ all → new ++ all_gone core h sid (map record_of (drop (i + 1) rs)) ≡ all
-parts-told-next core h sid rs i r old new all at more before =
-    ap (λ (l : List Entry). l ++ rest) more
-    ∙ append_assoc old (map withdrawn_at (gone_of core h sid (record_of r))) rest
-    ∙ ap (λ (l : List Side). old ++ all_gone core h sid (map record_of l)) (sym (drop-here rs i r at))
-    ∙ before
-  where
-    rest : List Entry
-    rest = all_gone core h sid (map record_of (drop (i + 1) rs))
 
 -- ---- puts that are kept
 

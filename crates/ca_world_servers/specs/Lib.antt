@@ -5,4 +5,3 @@ pub mod Parting
 pub mod Answering
 pub mod Coming
 pub mod Effects
-pub mod EndsWith

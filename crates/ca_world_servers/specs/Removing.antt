@@ -1,8 +1,10 @@
 -- Working: a record of a server is removed.
-use Rattle.std.specs.Prelude.{ℕ, ◌≡◌, ◌⊎◌, Bool, true, List, Ok, Err, Result, Vec, filter, map, not}
+use Rattle.std.specs.Prelude.{ℕ, ◌≡◌, ◌⊎◌, Bool, true, List, Ok, Err, Result, Vec, filter, is_some}
+use Rattle.std.specs.Prelude.{map, not}
 use Rattle.std.specs.declared.alloc.Global.{Global}
 use Rattle.std.specs.Str.{bytes_eq}
 use Rattle.ca_arena.specs.declared.handle.Handle.{Handle}
+use Rattle.ca_records.specs.Puts.{record_named}
 use Rattle.ca_text.specs.declared.refusal.Refusal.{Refusal}
 use Rattle.ca_text.specs.declared.refusal.Refusal.TheVariants as refusal
 use Rattle.ca_text.specs.Place.{At}
@@ -43,7 +45,8 @@ pub record TellsRemoval (i : ℕ) (name : List ℕ) (told : List Entry) (f : Joi
   pub reports : Reports i (record y { records = rest }) (map f ks)
       (grown y.life told logs) y' ks' logs'
 
--- A record of server i is removed; the core may refuse it, and nothing changes.
+-- A record of server i is removed; the core may refuse it, and nothing changes. Only the removal of
+-- one that is served lacks memory.
 abbrev pub RemovesAt : (i : ℕ) → (name : List ℕ) → ServerSide → List Joined → List (List Entry)
     → Result (Unit {0}) Refusal → ServerSide → List Joined → List (List Entry) → Type 0
 RemovesAt i name y ks logs (Ok _) y' ks' logs' =
@@ -54,5 +57,5 @@ RemovesAt i name y ks logs (Ok _) y' ks' logs' =
     ⊎ (Removes y.core name gone left (Err refusal.UnknownRecord) core × (y' ≡ y) × (ks' ≡ ks)
     × (logs' ≡ logs)))
 RemovesAt i name y ks logs (Err refusal.OutOfMemory) y' ks' logs' =
-    (y' ≡ y) × (ks' ≡ ks) × (logs' ≡ logs)
+    (is_some (record_named y.core.records name) ≡ true) × (y' ≡ y) × (ks' ≡ ks) × (logs' ≡ logs)
 RemovesAt i name y ks logs (Err _) y' ks' logs' = ⊥

@@ -4,7 +4,7 @@ ghost use Rattle.std.specs.Prelude.{◌≡◌, ◌+◌, Bool, Some, map};
 ghost use Rattle.ca_world_data.specs.Numbering.{AllAlike, AllMayCount};
 ghost use Rattle.ca_world_data.specs.Opening.{entries_in};
 ghost use Rattle.ca_world_data.specs.Reporting.{waits};
-ghost use Rattle.ca_world_data.specs.Seen.{joined_of, record_of};
+ghost use Rattle.ca_world_data.specs.Seen.{joined_of, place_of, record_of};
 ghost use Rattle.ca_world_data.specs.ServerCuts.{HasRoomFor};
 ghost use Rattle.ca_world_servers.specs.declared.coming.Coming as coming;
 ghost use Rattle.ca_world_servers.specs.Effects.{AreApart, IsPartingOf, MayWaitFor, TellsClear};
@@ -16,20 +16,19 @@ use crate::handling::{add_waiting, make_busy};
 use crate::parting::{Parting, keep_waiting};
 use ca_dbr::Meta;
 use ca_server_core::Effect;
-use ca_world_data::entries::{push_entry, push_some};
+use ca_world_data::entries::{push_entries, push_entry};
 use ca_world_data::history::{LogEntry, Stored};
 use ca_world_data::joined::Joined;
 use ca_world_data::numbering::{number_of, post_numbers};
-use ca_world_data::server::{RecordSide, ServerSide};
+use ca_world_data::server::{PutPlace, RecordSide, ServerSide};
 
 // The mask of an applied write: VALUE and LOG.
 const WRITE_MASK: u16 = 3;
 
-/// What the message at this place of this circuit did is told of the records of its server, whose
+/// What the message at this place of its circuit did is told of the records of its server, whose
 /// core has it, in the log of its life and in the numbers that wait. There is room for all of it.
 pub fn tell_effect(
-    circuit: usize,
-    place: usize,
+    put: PutPlace,
     server: usize,
     side: &mut ServerSide,
     circuits: &mut Vec<Joined>,
@@ -48,7 +47,7 @@ pub fn tell_effect(
     requires room { HasRoomFor (waits side.old.records.items + 2) side.old.life logs.old.items }
     ensures tells { TellsMessage
         server
-        (record { circuit = circuit; place = place })
+        (place_of put)
         effect
         write
         parting
@@ -61,31 +60,9 @@ pub fn tell_effect(
     ensures room { HasRoomFor (waits side.new.records.items) side.new.life logs.new.items }
 {
     match effect {
-        Effect::Wrote(_) => {
-            tell_write(
-                circuit,
-                place,
-                server,
-                side,
-                circuits,
-                logs,
-                Some(false),
-                write,
-            );
-        }
-        Effect::Busied(_) => {
-            tell_write(
-                circuit,
-                place,
-                server,
-                side,
-                circuits,
-                logs,
-                Some(true),
-                write,
-            );
-        }
-        Effect::Queued(_) => tell_wait(circuit, place, side, logs, write),
+        Effect::Wrote(_) => tell_write(put, server, side, circuits, logs, Some(false), write),
+        Effect::Busied(_) => tell_write(put, server, side, circuits, logs, Some(true), write),
+        Effect::Queued(_) => tell_wait(put, side, logs, write),
         Effect::Cleared(_) => tell_clear(side, logs, parting),
         Effect::Quiet => {}
         Effect::Refused => {}
@@ -97,11 +74,10 @@ pub fn tell_effect(
     }
 }
 
-/// The write of the message at this place of this circuit, if it wrote, is in the log; it makes its
+/// The write of the message at this place of its circuit, if it wrote, is in the log; it makes its
 /// record busy or not, and its numbers wait.
 pub fn tell_write(
-    circuit: usize,
-    place: usize,
+    put: PutPlace,
     server: usize,
     side: &mut ServerSide,
     circuits: &mut Vec<Joined>,
@@ -116,7 +92,7 @@ pub fn tell_write(
     requires room { HasRoomFor (waits side.old.records.items + 2) side.old.life logs.old.items }
     ensures tells { TellsWrite
         server
-        (record { circuit = circuit; place = place })
+        (place_of put)
         wrote
         write
         side.old
@@ -142,30 +118,29 @@ pub fn tell_write(
     push_entry(
         logs,
         side.life,
-        LogEntry::Applied(circuit, place, number, stored, busies),
+        LogEntry::Applied(put.circuit, put.place, number, stored, busies),
     );
-    busy_if(&mut side.records, &name, circuit, place, busies);
+    busy_if(&mut side.records, &name, put, busies);
     post_numbers(server, &side.core, circuits, &name, WRITE_MASK);
 }
 
 // The put makes its record busy, or not.
-fn busy_if(records: &mut [RecordSide], name: &[u8], circuit: usize, place: usize, busies: bool)
+fn busy_if(records: &mut [RecordSide], name: &[u8], put: PutPlace, busies: bool)
     ensures { map record_of records.new
         ≡ busy_after
         busies
         name.now
-        (record { circuit = circuit; place = place })
+        (place_of put)
         (map record_of records.old) }
 {
     if busies {
-        make_busy(records, name, circuit, place);
+        make_busy(records, name, put);
     }
 }
 
 // The put waits. There is room for it.
 fn tell_wait(
-    circuit: usize,
-    place: usize,
+    put: PutPlace,
     side: &mut ServerSide,
     logs: &mut Vec<Vec<LogEntry>>,
     write: Option<Coming>,
@@ -174,7 +149,7 @@ fn tell_wait(
     requires space { MayWaitFor write side.old.records.items }
     requires room { HasRoomFor (waits side.old.records.items + 2) side.old.life logs.old.items }
     ensures tells { TellsWait
-        (record { circuit = circuit; place = place })
+        (place_of put)
         write
         side.old
         (entries_in logs.old.items)
@@ -194,9 +169,9 @@ fn tell_wait(
     push_entry(
         logs,
         side.life,
-        LogEntry::Waits(circuit, place, number, stored),
+        LogEntry::Waits(put.circuit, put.place, number, stored),
     );
-    add_waiting(&mut side.records, &name, circuit, place);
+    add_waiting(&mut side.records, &name, put);
 }
 
 // The puts of the channel that is cleared leave their records.
@@ -215,6 +190,6 @@ fn tell_clear(side: &mut ServerSide, logs: &mut Vec<Vec<LogEntry>>, parting: Opt
         return;
     };
     let Parting { kept, told } = parting;
-    push_some(logs, side.life, told);
+    push_entries(logs, side.life, told);
     keep_waiting(&mut side.records, kept);
 }

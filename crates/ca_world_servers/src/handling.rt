@@ -198,16 +198,16 @@ fn begin_in(queue: &mut ListQueue<(usize, Cause)>, key: SubKey, place: usize)
     }
 }
 
-/// The put at this place of this circuit makes the record of this name busy.
-pub fn make_busy(records: &mut [RecordSide], name: &[u8], circuit: usize, place: usize)
+/// The put at this place of its circuit makes the record of this name busy.
+pub fn make_busy(records: &mut [RecordSide], name: &[u8], put: PutPlace)
     ensures { map record_of records.new
         ≡ world.with_record
         name.now
-        (made_busy (record { circuit = circuit; place = place }))
+        (made_busy (place_of put))
         (map record_of records.old) }
 {
     for record in records.iter_mut() {
-        busy_if(record, name, PutPlace { circuit, place });
+        busy_if(record, name, put);
     }
 }
 
@@ -246,17 +246,17 @@ fn reserve_if(side: &mut RecordSide, name: &[u8]) -> Result<(), AllocError>
     Ok(())
 }
 
-/// The put at this place of this circuit waits for the record of this name, which has room for it.
-pub fn add_waiting(records: &mut [RecordSide], name: &[u8], circuit: usize, place: usize)
+/// The put at this place of its circuit waits for the record of this name, which has room for it.
+pub fn add_waiting(records: &mut [RecordSide], name: &[u8], put: PutPlace)
     requires { HaveRoomToWait name.now records.old }
     ensures { map record_of records.new
         ≡ world.with_record
         name.now
-        (with_waiting (record { circuit = circuit; place = place }))
+        (with_waiting (place_of put))
         (map record_of records.old) }
 {
     for record in records.iter_mut() {
-        wait_if(record, name, PutPlace { circuit, place });
+        wait_if(record, name, put);
     }
 }
 

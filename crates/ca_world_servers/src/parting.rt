@@ -1,7 +1,6 @@
 //! The puts that wait on a channel which a message clears leave their records, and the log
 //! has them as withdrawn.
 ghost use Rattle.std.specs.Prelude.{◌≡◌, ◌++◌, IfOk, OnOk, map, not};
-ghost use Rattle.ca_ids.specs.Table.{same_handle};
 ghost use Rattle.ca_model.specs.ServerEvents as world;
 ghost use Rattle.ca_world_data.specs.Seen.{entry_of, place_of, record_of};
 ghost use Rattle.ca_world_servers.specs.Parting.{all_gone, all_kept, gone_of, kept_of, places_in};
@@ -13,6 +12,7 @@ use ca_records::Put;
 use ca_server_core::ServerCore;
 use ca_server_core::for_histories::waiting_at;
 use ca_world_data::history::LogEntry;
+use ca_world_data::naming::is_same;
 use ca_world_data::server::{PutPlace, RecordSide};
 use std::alloc::{AllocError, Global};
 
@@ -96,12 +96,6 @@ fn is_on_channel(put: Put, circuit: Handle, sid: u32) -> bool
     ensures { result ≡ world.is_of_channel circuit sid put }
 {
     is_same(put.circuit, circuit) && WireId::of(put.channel).number() == sid
-}
-
-fn is_same(a: Handle, b: Handle) -> bool
-    ensures { result ≡ same_handle a b }
-{
-    a.index == b.index && a.generation == b.generation
 }
 
 /// The puts that wait for these records are from now on those that were kept of each.

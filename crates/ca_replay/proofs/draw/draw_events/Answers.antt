@@ -6,7 +6,7 @@ use Rattle.ca_events.specs.Events.{event_of}
 use Rattle.ca_model.specs.Events as world
 use Rattle.ca_replay.specs.Drawing.{GoesAlong, outset}
 use Rattle.ca_replay.specs.Steps.{along}
-use Rattle.ca_replay.proofs.Folding.{folds-more}
+use Rattle.ca_world_data.proofs.Ranges.{folds-more}
 use Rattle.ca_replay.proofs.Goings.{parts-next}
 use Rattle.ca_replay.proofs.draw.draw_events.Goals as goal
 

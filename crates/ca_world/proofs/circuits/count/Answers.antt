@@ -15,7 +15,7 @@ returns-in_default c =
     let ss : List ServerSide = c.args.servers.now.items in
     let ks : List Joined = c.args.circuits.now.items in
     let k : ℕ = c.args.circuit in
-    let none = no-ends-here cs ss ks c.deref.result.now c.len.result c.len-2.result k (omega (arith, c.len.ensures)) (omega (arith, c.len-2.ensures)) c.deref.ensures.value c.in_default.ensures in
+    let none = no-ends-here cs ss ks c.deref.result.now c.deref-2.result.now c.deref-3.result.now k c.deref.ensures.value c.deref-2.ensures.value c.deref-3.ensures.value c.in_default.ensures in
     inr (none-waits cs ss ks [] [] 0 k none, refl)
 
 pub index-joined-requires : goal.index-joined-requires
@@ -24,7 +24,7 @@ index-joined-requires c =
     let ss : List ServerSide = c.args.servers.now.items in
     let ks : List Joined = c.args.circuits.now.items in
     let k : ℕ = c.args.circuit in
-    let a = ends-here cs ss ks c.deref.result.now c.len.result c.len-2.result k c.in-Some.ends (omega (arith, c.len.ensures)) (omega (arith, c.len-2.ensures)) c.deref.ensures.value c.in-Some.ensures in
+    let a = ends-here cs ss ks c.deref.result.now c.deref-2.result.now c.deref-3.result.now k c.in-Some.ends c.deref.ensures.value c.deref-2.ensures.value c.deref-3.ensures.value c.in-Some.ensures in
     let within : k < length ks = At-within ks k a.j a.at in
     omega (arith, within)
 
@@ -34,7 +34,7 @@ returns-in-Up c =
     let ss : List ServerSide = c.args.servers.now.items in
     let ks : List Joined = c.args.circuits.now.items in
     let k : ℕ = c.args.circuit in
-    let a = ends-here cs ss ks c.deref.result.now c.len.result c.len-2.result k c.in-Some.ends (omega (arith, c.len.ensures)) (omega (arith, c.len-2.ensures)) c.deref.ensures.value c.in-Some.ensures in
+    let a = ends-here cs ss ks c.deref.result.now c.deref-2.result.now c.deref-3.result.now k c.in-Some.ends c.deref.ensures.value c.deref-2.ensures.value c.deref-3.ensures.value c.in-Some.ensures in
     let j : Joined = c.index-joined.result.now in
     let within : k < length ks = At-within ks k a.j a.at in
     let at : At ks k j = found ks k j j within c.index-joined.ensures in
@@ -48,7 +48,7 @@ returns-in-Down c =
     let ss : List ServerSide = c.args.servers.now.items in
     let ks : List Joined = c.args.circuits.now.items in
     let k : ℕ = c.args.circuit in
-    let a = ends-here cs ss ks c.deref.result.now c.len.result c.len-2.result k c.in-Some.ends (omega (arith, c.len.ensures)) (omega (arith, c.len-2.ensures)) c.deref.ensures.value c.in-Some.ensures in
+    let a = ends-here cs ss ks c.deref.result.now c.deref-2.result.now c.deref-3.result.now k c.in-Some.ends c.deref.ensures.value c.deref-2.ensures.value c.deref-3.ensures.value c.in-Some.ensures in
     let j : Joined = c.index-joined.result.now in
     let within : k < length ks = At-within ks k a.j a.at in
     let at : At ks k j = found ks k j j within c.index-joined.ensures in

@@ -13,7 +13,8 @@ use Rattle.ca_world_data.specs.declared.way.ChannelRoute.{ChannelRoute}
 use Rattle.ca_world_data.specs.Logs.{lines_in}
 use Rattle.ca_world_data.specs.Seen.{client_of, joined_of, named_of}
 use Rattle.ca_world_data.specs.Speaking.{GoesUp}
-use Rattle.ca_world.proofs.Clearings.{clears-done, clears-moved, clears-noted, room-fewer}
+use Rattle.ca_world_data.proofs.Silences.{room-fewer}
+use Rattle.ca_world.proofs.Clearings.{clears-done, clears-moved, clears-noted}
 use Rattle.ca_world.proofs.clear.clear_on.Goals as goal
 
 pub tell_call-requires : goal.tell_call-requires
@@ -46,7 +47,7 @@ returns-in-Ok-clause-clears c =
     r.named c.requires.once r.way r.numbered c.in-Ok.ensures.1
     refl
     c.tell_call.ensures
-    (subst (λ (z : history.Sent). GoesUp way.circuit z ks ks') (λ t. record { message = said t; intent = history.On ch history.Clear }) c.push_sent.ensures))
+    (subst (λ (z : history.Sent). GoesUp way.circuit z ks ks') (λ t. record { message = said t; intent = history.On ch history.Clear }) c.push_sent.ensures.goes))
 
 pub returns-in-Err-clause-clears : goal.returns-in-Err-clause-clears
 returns-in-Err-clause-clears c =

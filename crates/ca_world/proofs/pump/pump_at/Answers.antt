@@ -49,6 +49,6 @@ returns c =
         subst (λ (j : model.Joined). PumpsUntil y.core j (Some c.in-Some.left) c.pump_end.new.core (joined_of c.pump_end.new.joined)) c.reserve_updates.ensures.same c.in-Some.ensures,
         c.close_server.ensures,
         (λ t. record (server_of y) { core = c.pump_end.new.core; records = records t }),
-        c.push_entries.ensures ∙ (λ t. grown y.life (told t) (c.reserve_entries.ensures.same t)),
+        c.push_entries.ensures.logged ∙ (λ t. grown y.life (told t) (c.reserve_entries.ensures.same t)),
       ),
     )

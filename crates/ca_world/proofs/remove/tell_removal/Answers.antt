@@ -14,8 +14,8 @@ use Rattle.ca_world.proofs.remove.tell_removal.Goals as goal
 
 pub report_ends-requires-clause-room : goal.report_ends-requires-clause-room
 report_ends-requires-clause-room c =
-    room-left c.args.side.now.life c.push_some.new.logs.items (λ (r : model.RecordSide). not (bytes_eq r.name c.args.name.now)) c.args.side.now.records.items c.forget_record.new.records.items c.forget_record.ensures
-    (c.push_some.ensures.room (waits c.args.side.now.records.items) c.requires.room)
+    room-left c.args.side.now.life c.push_entries.new.logs.items (λ (r : model.RecordSide). not (bytes_eq r.name c.args.name.now)) c.args.side.now.records.items c.forget_record.new.records.items c.forget_record.ensures
+    (c.push_entries.ensures.room (waits c.args.side.now.records.items) c.requires.room)
 
 pub report_ends-requires-clause-served : goal.report_ends-requires-clause-served
 report_ends-requires-clause-served c =
@@ -35,5 +35,5 @@ returns c = λ f lost.
       records = c.forget_record.ensures;
       reports =
           subst (λ (z : List model.Joined × List (List Entry)). Reports c.args.server (record c.args.side.now { records = c.forget_record.new.records }) z.0 z.1 c.report_ends.new.side (map joined_of c.report_ends.new.circuits.items) (entries_in c.report_ends.new.logs.items))
-          (λ t. (after t, c.push_some.ensures.logged t)) c.report_ends.ensures;
+          (λ t. (after t, c.push_entries.ensures.logged t)) c.report_ends.ensures;
     }

@@ -1,7 +1,7 @@
 use Rattle.std.proofs.Common.{◌∙◌, ℕ, List, length, drop, ap, arith}
 use Rattle.ca_ids.specs.Table.{under}
 use Rattle.ca_model.specs.ServerSteps.{output_of}
-use Rattle.ca_world_data.proofs.RepliesWithin.{rest-is}
+use Rattle.ca_world_data.proofs.UpdateTellings.{rest-is}
 use Rattle.ca_world.proofs.StepPrepared.{behind-are, behind-within}
 use Rattle.ca_world.proofs.server_step.replies_behind.Goals as goal
 

@@ -12,7 +12,7 @@ use Rattle.ca_world_data.specs.declared.joined.Joined.{Joined}
 use Rattle.ca_world_data.specs.declared.server.ServerSide.{ServerSide}
 use Rattle.ca_world_data.specs.Opening.{entries_in}
 use Rattle.ca_world_data.specs.Seen.{joined_of, record_of, server_of}
-use Rattle.ca_world.proofs.StepCloses.{there-is}
+use Rattle.ca_world_data.proofs.Worlds.{one-at}
 use Rattle.ca_world.proofs.StepClosed.{closed-alike, closed-at, handled-step, open-steps, rests-at}
 use Rattle.ca_world.proofs.server_step.step_end.Goals as goal
 
@@ -30,7 +30,7 @@ close_stepped-requires-clause-alike c = λ busies is.
     let items : List Joined = c.args.circuits.now.items in
     let t = c.args.turn.now in
     let within : t.circuit < length items = subst (λ (n : ℕ). t.circuit < n) c.args.circuits.now.ok.0 c.requires.within in
-    let one = there-is items t.circuit within in
+    let one = one-at items t.circuit within in
     let j : model.Joined = joined_of one.0 in
     let core : Server = c.args.side.now.core in
     let m = c.requires.may j (At-map joined_of items t.circuit one.0 one.1) in

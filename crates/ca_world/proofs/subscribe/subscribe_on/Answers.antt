@@ -1,12 +1,68 @@
-use Rattle.std.proofs.Common.{subst}
+use Rattle.std.proofs.Common.{◌≡◌, ℕ, List, [], ◌∷◌, ◌++◌, Ok, length, arith, refl, sym, ap, subst, ◌∙◌}
 use Rattle.std.specs.Prelude.{map}
+use Rattle.std.proofs.lemmas.List.{length-map, map-append}
+use Rattle.ca_arena.specs.declared.handle.Handle.{Handle}
+use Rattle.ca_ids.specs.Wire.{wire_of}
+use Rattle.ca_wire.specs.Messages.{event_add_request, on_channel}
+use Rattle.ca_text.specs.declared.command.Command.TheVariants as command
 use Rattle.ca_model.specs.ClientCalls.{Shape}
+use Rattle.ca_model.specs.History.{Called, Line, On}
+use Rattle.ca_model.specs.History as history
+use Rattle.ca_model.specs.World.{Joined, grown}
+use Rattle.ca_model.specs.World as model
+use Rattle.ca_laws_parts.specs.Circuit.{AreGiven}
+use Rattle.ca_world_data.specs.declared.client.ClientSide.{ClientSide}
+use Rattle.ca_world_data.specs.declared.way.ChannelRoute.{ChannelRoute}
 use Rattle.ca_world_data.specs.Logs.{lines_in}
-use Rattle.ca_world_data.specs.Subscribes.{SubscribesOn}
-use Rattle.ca_world_data.specs.Seen.{client_of, joined_of}
+use Rattle.ca_world_data.specs.Seen.{client_of, joined_of, named_of}
+use Rattle.ca_world_data.specs.Subscribes.{SubscribesOn, subscribe_names}
+use Rattle.ca_world_data.specs.Speaking.{GoesUp}
+use Rattle.ca_world.proofs.Subscribing.{subscribes-done, subscribes-moved, subscribes-noted}
 use Rattle.ca_world.proofs.subscribe.subscribe_on.Goals as goal
 
-pub returns-in-Some-clause-subscribes : goal.returns-in-Some-clause-subscribes
-returns-in-Some-clause-subscribes c =
-    subst (λ (a : Shape). SubscribesOn c.args.client c.args.channel a c.args.mask (client_of c.args.side.now) (lines_in c.args.logs.now.items) (map joined_of c.args.circuits.now.items) c.subscribe_carried.result (client_of c.subscribe_carried.new.side) (lines_in c.subscribe_carried.new.logs.items) (map joined_of c.subscribe_carried.new.circuits.items))
-    (λ t. record { data_type = c.in-Some.ensures.0 t; count = c.in-Some.ensures.1 t }) c.subscribe_carried.ensures.subscribes
+pub returns-in-Ok-clause-subscribes : goal.returns-in-Ok-clause-subscribes
+returns-in-Ok-clause-subscribes c =
+    let i : ℕ = c.args.client in
+    let ch : ℕ = c.args.channel in
+    let x : ClientSide = c.args.side.now in
+    let y : ClientSide = c.prepare.new.side in
+    let q : Handle = c.in-Ok.subscription in
+    let way : ChannelRoute = c.in_ok-handle.way in
+    let a : Shape = record { data_type = c.in-Some.asked_type; count = c.in-Some.asked_count } in
+    let whole : Shape = record { data_type = c.args.data_type; count = c.args.count } in
+    let same : a ≡ whole = λ t. record { data_type = c.in-Some.ensures.0 t; count = c.in-Some.ensures.1 t } in
+    let mask : ℕ = c.args.mask in
+    let r = c.in_ok-handle.ensures.ready in
+    let logs : List (List Line) = lines_in c.prepare.new.logs.items in
+    let logs' : List (List Line) = lines_in c.push_line.new.logs.items in
+    let ks : List Joined = map joined_of c.prepare.new.circuits.items in
+    let ks' : List Joined = map joined_of c.push_sent.new.circuits.items in
+    let given : AreGiven (client_of y).names.subscriptions y.core.subscriptions = subst (λ (z : model.ClientSide). AreGiven z.names.subscriptions z.core.subscriptions) (sym c.prepare.ensures.side) c.requires.given in
+    let number : c.len-number.result ≡ length (client_of y).names.subscriptions = omega (arith, c.len-number.ensures) ∙ sym (length-map y.names.subscriptions.items named_of) in
+    let named : map named_of c.push_reserved.new.self.items ≡ (subscribe_names ch (client_of y) q).subscriptions =
+    ap (map named_of) c.push_reserved.ensures.items ∙ map-append named_of y.names.subscriptions.items _ ∙ ap (λ (n : ℕ). (client_of y).names.subscriptions ++ (q, On ch (history.Subscribe n)) ∷ []) number in
+    let x' : model.ClientSide = record (client_of y) { core = c.subscribe.new.self; names = record (client_of y).names { subscriptions = map named_of c.push_reserved.new.self.items } } in
+    let wanted : c.with_payload-message.result ≡ event_add_request (record { sid = way.sid; id = wire_of q; data_type = a.data_type; count = a.count }) mask =
+    c.with_payload-message.ensures ∙ (λ t. on_channel command.EventAdd (c.wanted_on-wanted.ensures t) (c.in_ok-payload.ensures.made t)) in
+    subst (λ (z : Shape). SubscribesOn i ch z mask (client_of x) (lines_in c.args.logs.now.items) (map joined_of c.args.circuits.now.items) (Ok tt) x' logs' ks') same
+    (subscribes-moved i ch a mask (client_of x) (client_of y) x' (lines_in c.args.logs.now.items) logs logs' (map joined_of c.args.circuits.now.items) ks ks' (Ok tt)
+    c.prepare.ensures.side c.prepare.ensures.logs c.prepare.ensures.circuits
+    (subscribes-done i ch a mask (client_of y) x' logs logs' ks ks' c.in_ok-handle.handle q way y.circuits.items c.in-Ok.ensures.0 tt
+    r.named given r.way r.numbered c.in-Ok.ensures.1
+    (λ t. record (client_of y) { core = c.subscribe.new.self; names = record (client_of y).names { subscriptions = named t } })
+    (c.push_line.ensures ∙ (λ t. grown y.life (Called (On ch (history.Subscribe (number t))) (history.ToWatch a.data_type a.count (c.bits.ensures.bits t)) ∷ []) logs))
+    (subst (λ (z : history.Sent). GoesUp way.circuit z ks ks') (λ t. record { message = wanted t; intent = On ch (history.Subscribe (number t)) }) c.push_sent.ensures.goes)))
+
+pub returns-in-Err-clause-subscribes : goal.returns-in-Err-clause-subscribes
+returns-in-Err-clause-subscribes c =
+    let x : ClientSide = c.args.side.now in
+    let y : ClientSide = c.prepare.new.side in
+    let a : Shape = record { data_type = c.in-Some.asked_type; count = c.in-Some.asked_count } in
+    let whole : Shape = record { data_type = c.args.data_type; count = c.args.count } in
+    let same : a ≡ whole = λ t. record { data_type = c.in-Some.ensures.0 t; count = c.in-Some.ensures.1 t } in
+    let r = c.in_ok-handle.ensures.ready in
+    subst (λ (z : Shape). SubscribesOn c.args.client c.args.channel z c.args.mask (client_of x) (lines_in c.args.logs.now.items) (map joined_of c.args.circuits.now.items) c.note.result _ _ _) same
+    (subscribes-moved c.args.client c.args.channel a c.args.mask (client_of x) (client_of y) _ (lines_in c.args.logs.now.items) (lines_in c.prepare.new.logs.items) _ (map joined_of c.args.circuits.now.items) (map joined_of c.prepare.new.circuits.items) _ _
+    c.prepare.ensures.side c.prepare.ensures.logs c.prepare.ensures.circuits
+    (subscribes-noted c.args.client c.args.channel a c.args.mask (client_of y) _ (lines_in c.prepare.new.logs.items) _ (map joined_of c.prepare.new.circuits.items) c.in_ok-handle.handle c.in-Err.refusal c.in-Err.ensures.0 c.subscribe.new.self c.note.result
+    r.named c.in-Err.ensures.1 refl c.note.ensures))

@@ -38,7 +38,7 @@ returns-in-Ok-clause-unsubscribes c =
     named refl (c.requires.theirs n s named) r.way r.numbered c.in-Ok.ensures.1
     refl
     (c.push_line.ensures ∙ ap (λ (m : Intent). grown x.life (Called m history.Nothing ∷ []) logs) meant)
-    (subst (λ (z : history.Sent). GoesUp w.circuit z ks ks') (λ t. record { message = c.event_cancel_request-message.ensures t; intent = meant t }) c.push_sent.ensures))
+    (subst (λ (z : history.Sent). GoesUp w.circuit z ks ks') (λ t. record { message = c.event_cancel_request-message.ensures t; intent = meant t }) c.push_sent.ensures.goes))
 
 pub returns-in-Err-clause-unsubscribes : goal.returns-in-Err-clause-unsubscribes
 returns-in-Err-clause-unsubscribes c =

@@ -1,4 +1,4 @@
-use Rattle.std.proofs.Common.{ℕ, refl}
+use Rattle.std.proofs.Common.{refl}
 use Rattle.std.specs.Prelude.{map}
 use Rattle.ca_model.specs.ClientCalls.{Shape}
 use Rattle.ca_client_core.proofs.Adding.{subscribes-not}

@@ -60,7 +60,7 @@ returns-in-Ok-clause-writes c =
     r.named once r.way r.numbered c.in-Ok.ensures.1
     refl
     (c.push_line.ensures ∙ (λ t. grown y.life (Called (On ch (Request history.Write y.names.writes)) (history.ToWrite (c.in_ok-own.ensures t)) ∷ []) logs))
-    (subst (λ (z : history.Sent). GoesUp way.circuit z ks ks') (λ t. record { message = wanted t; intent = On ch (Request history.Write y.names.writes) }) c.push_sent.ensures))
+    (subst (λ (z : history.Sent). GoesUp way.circuit z ks ks') (λ t. record { message = wanted t; intent = On ch (Request history.Write y.names.writes) }) c.push_sent.ensures.goes))
 
 pub returns-in-Err-clause-writes : goal.returns-in-Err-clause-writes
 returns-in-Err-clause-writes c =

@@ -64,7 +64,7 @@ returns-in-Ok-clause-puts c =
     r.named given r.way r.numbered c.in-Ok.ensures.1
     (λ t. record (client_of y) { core = c.write_notify.new.self; names = record (client_of y).names { requests = named t } })
     (c.push_line.ensures ∙ (λ t. grown y.life (Called (On ch (Request history.Put (number t))) (history.ToWrite (c.in_ok-own.ensures t)) ∷ []) logs))
-    (subst (λ (z : history.Sent). GoesUp way.circuit z ks ks') (λ t. record { message = wanted t; intent = On ch (Request history.Put (number t)) }) c.push_sent.ensures))
+    (subst (λ (z : history.Sent). GoesUp way.circuit z ks ks') (λ t. record { message = wanted t; intent = On ch (Request history.Put (number t)) }) c.push_sent.ensures.goes))
 
 pub returns-in-Err-clause-puts : goal.returns-in-Err-clause-puts
 returns-in-Err-clause-puts c =

@@ -7,7 +7,8 @@ use Rattle.ca_model.specs.History.{Reply}
 use Rattle.ca_model.specs.ServerEvents.{about}
 use Rattle.ca_world_data.specs.declared.history.Cause.TheVariants as cause
 use Rattle.ca_world_data.specs.Seen.{told_of}
-use Rattle.ca_world_data.proofs.RepliesWithin.{first-fits, none-spelled, one-told, rest-is, second-fits, two-told}
+use Rattle.ca_world_data.proofs.RepliesWithin.{first-fits, none-spelled, one-told, second-fits, two-told}
+use Rattle.ca_world_data.proofs.UpdateTellings.{rest-is}
 use Rattle.ca_world_data.proofs.replies.replies_in.Goals as goal
 
 -- where bytes are there is one

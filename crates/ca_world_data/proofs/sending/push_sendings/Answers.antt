@@ -12,8 +12,8 @@ use Rattle.ca_world_data.specs.Speaking.{GoesBy, sent_up, stamped}
 use Rattle.ca_world_data.proofs.Going.{Goes, goes-by, none-up, room-first, went-up}
 use Rattle.ca_world_data.proofs.sending.push_sendings.Goals as goal
 
-pub push_on-requires : goal.push_on-requires
-push_on-requires c =
+pub push_sent-requires : goal.push_sent-requires
+push_sent-requires c =
     let i : ℕ = c.args.client in
     let ks : List Joined = c.loop-sending.circuits.items in
     let s : Sending = c.in-Some.sending in
@@ -41,8 +41,8 @@ loop-sending-preserved c =
     (subst (λ (z : List Joined). Rattle.std.specs.Prelude.MatchOption c.circuit_of-number.result (Rattle.ca_world_data.specs.Found.IsNowhere (map joined_of z) i s.circuit) (Rattle.ca_world_data.specs.Found.IsAt (map joined_of z) i s.circuit)) c.deref.ensures.value c.circuit_of-number.ensures) in
     let said : history.Sent = record { message = s.message; intent = Rattle.ca_world_data.specs.Seen.intent_of c.intent_for-intent.result } in
     let is : said ≡ stamped n (sending_of s) = λ t. record { message = s.message; intent = c.intent_for-intent.ensures t } in
-    let done : Goes c.args.numbers.now i n rest c.push_on.new.circuits.items all =
-    went-up c.args.numbers.now i n s rest ks c.push_on.new.circuits.items c.circuit_of-number.result said all c.loop-sending.invariant.numbered room by is c.push_on.ensures.goes c.push_on.ensures.leaves total in
+    let done : Goes c.args.numbers.now i n rest c.push_sent.new.circuits.items all =
+    went-up c.args.numbers.now i n s rest ks c.push_sent.new.circuits.items c.circuit_of-number.result said all c.loop-sending.invariant.numbered room by is c.push_sent.ensures.goes c.push_sent.ensures.leaves total in
     record { numbered = done.numbered; room = done.room; circuits = done.circuits }
 
 pub returns : goal.returns

@@ -13,8 +13,8 @@ loop-place-preserved c =
     let n : ℕ = get_or numbers c.loop-place.place 0 in
     let at : At numbers c.loop-place.place n = found numbers c.loop-place.place n 0 c.loop-place-test.true refl in
     record {
-      same = c.reserve_on.ensures.same ∙ c.loop-place.invariant.same;
-      room = room-until-more c.args.messages numbers c.loop-place.place n c.loop-place.circuits.items c.reserve_on.new.circuits.items at c.loop-place.invariant.room c.in_ok-reserve_on.ensures.room c.reserve_on.ensures.keeps;
+      same = c.reserve_sent.ensures.same ∙ c.loop-place.invariant.same;
+      room = room-until-more c.args.messages numbers c.loop-place.place n c.loop-place.circuits.items c.reserve_sent.new.circuits.items at c.loop-place.invariant.room c.in_ok-reserve_sent.ensures.room c.reserve_sent.ensures.keeps;
     }
 
 pub returns-clause-room : goal.returns-clause-room

@@ -1,4 +1,4 @@
-use Rattle.std.proofs.Common.{◌≡◌, ℕ, List, get_or, map, refl, sym, subst, ◌∙◌}
+use Rattle.std.proofs.Common.{ℕ, List, get_or, map, refl, sym, subst, ◌∙◌}
 use Rattle.std.specs.Prelude.{MatchOption}
 use Rattle.ca_client_core.specs.declared.for_histories.Sending.{Sending}
 use Rattle.ca_model.specs.World as model
@@ -16,7 +16,7 @@ loop-place-preserved c =
     let i : ℕ = c.args.client in
     let sent : List Sending = c.args.sendings.now in
     let ks : List Joined = c.loop-place.circuits.items in
-    let ks' : List Joined = c.reserve_on.new.circuits.items in
+    let ks' : List Joined = c.reserve_sent.new.circuits.items in
     let s : Sending = get_or sent c.loop-place.place c.index-sendings-place.result in
     let at : At sent c.loop-place.place s = found sent c.loop-place.place s c.index-sendings-place.result c.loop-place-test.true refl in
     let numbered : AreNumbered c.args.numbers.now (map joined_of ks) i = subst (λ (z : List model.Joined). AreNumbered c.args.numbers.now z i) (sym c.loop-place.invariant.same) c.requires in
@@ -24,10 +24,10 @@ loop-place-preserved c =
     let by : GoesBy o (map joined_of ks) i s.circuit =
     goes-by o (map joined_of ks) i s.circuit
     (subst (λ (z : List Joined). MatchOption o (IsNowhere (map joined_of z) i s.circuit) (IsAt (map joined_of z) i s.circuit)) c.deref.ensures.value c.circuit_of-number.ensures) in
-    let made = subst (λ (n : ℕ). HasRoomUp n o ks') c.number_on.ensures c.in_ok-reserve_on.ensures.room in
+    let made = subst (λ (n : ℕ). HasRoomUp n o ks') c.number_on.ensures c.in_ok-reserve_sent.ensures.room in
     record {
-      same = c.reserve_on.ensures.same ∙ c.loop-place.invariant.same;
-      room = room-made i c.args.numbers.now sent c.loop-place.place s ks ks' o numbered c.loop-place.invariant.room at by c.reserve_on.ensures.same made c.reserve_on.ensures.keeps;
+      same = c.reserve_sent.ensures.same ∙ c.loop-place.invariant.same;
+      room = room-made i c.args.numbers.now sent c.loop-place.place s ks ks' o numbered c.loop-place.invariant.room at by c.reserve_sent.ensures.same made c.reserve_sent.ensures.keeps;
     }
 
 pub returns-clause-room : goal.returns-clause-room

@@ -19,5 +19,5 @@ returns-clause-ready c =
     let at : At hs c.args.channel h = found hs c.args.channel h h within c.index-handle.ensures in
     ready c.args.client c.args.channel x c.reserve_names.new.side c.args.circuits.now.items c.reserve_sent.new.circuits.items c.reserve_lines.new.logs.items h c.way_of-way.result
     c.reserve_names.ensures.side c.reserve_names.ensures.numbers c.reserve_sent.ensures.same at
-    (subst (λ (z : List Joined). IsWay x.core (map joined_of z) c.args.client h c.way_of-way.result) c.deref.ensures.value c.way_of-way.ensures)
+    (subst (λ (z : List Joined). IsWay x.core (map joined_of z) c.args.client h c.way_of-way.result) c.deref.ensures.value c.way_of-way.ensures.way)
     c.requires c.in_ok-reserve_lines.ensures.room c.in_ok-reserve_sent.ensures.room c.in_ok-reserve_names.ensures.requests c.in_ok-reserve_names.ensures.subscriptions

@@ -3,7 +3,7 @@ use Rattle.std.proofs.lemmas.List.{length-map}
 use Rattle.ca_text.specs.Place.{At}
 use Rattle.ca_text.proofs.Places.{At-set}
 use Rattle.ca_world_data.specs.declared.server.RecordSide.{RecordSide}
-use Rattle.ca_world_data.specs.Seen.{record_of}
+use Rattle.ca_world_data.specs.Seen.{place_of, record_of}
 use Rattle.ca_world_data.proofs.Gone.{from-over}
 use Rattle.ca_world_data.proofs.Worlds.{found}
 use Rattle.ca_world_servers.specs.Handling.{MayWait, with_waiting}
@@ -35,7 +35,7 @@ loop-record-preserved c =
             | inl here ↦ absurd (omega (arith, behind, here.0))
             | inr was ↦ c.loop-record.invariant.room k x (omega (arith, behind)) was.0
           ];
-      records = change-next record_of (if_named c.args.name.now (with_waiting (record { circuit = c.args.circuit; place = c.args.place }))) i rs r _ c.wait_if.new.side at c.record-item.is c.wait_if.ensures ∙ c.loop-record.invariant.records;
+      records = change-next record_of (if_named c.args.name.now (with_waiting (place_of c.args.put))) i rs r _ c.wait_if.new.side at c.record-item.is c.wait_if.ensures ∙ c.loop-record.invariant.records;
     }
 
 pub returns : goal.returns
@@ -43,4 +43,4 @@ returns c =
     let rs : List RecordSide = c.loop-record.records in
     let i : ℕ = c.loop-record.record-index in
     let over : length (map record_of rs) ≤ i = omega (arith, c.loop-record-test.false, length-map rs record_of) in
-    sym (from-over i (if_named c.args.name.now (with_waiting (record { circuit = c.args.circuit; place = c.args.place }))) (map record_of rs) over) ∙ c.loop-record.invariant.records
+    sym (from-over i (if_named c.args.name.now (with_waiting (place_of c.args.put))) (map record_of rs) over) ∙ c.loop-record.invariant.records

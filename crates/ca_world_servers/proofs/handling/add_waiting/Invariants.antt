@@ -2,7 +2,7 @@ use Rattle.std.proofs.Common.{◌≡◌, ◌≤◌, ℕ, map}
 use Rattle.ca_model.specs.ServerEvents.{with_record}
 use Rattle.ca_text.specs.Place.{At}
 use Rattle.ca_world_data.specs.declared.server.RecordSide.{RecordSide}
-use Rattle.ca_world_data.specs.Seen.{record_of}
+use Rattle.ca_world_data.specs.Seen.{place_of, record_of}
 use Rattle.ca_world_data.proofs.Gone.{map_from}
 use Rattle.ca_world_servers.specs.Handling.{MayWait, with_waiting}
 use Rattle.ca_world_servers.proofs.Handled.{if_named}
@@ -13,7 +13,7 @@ abbrev pub invariant-loop-record : goal.invariant-loop-record
 invariant-loop-record l =
     record {
       records :
-          map_from l.record-index (if_named l.name (with_waiting (record { circuit = l.circuit; place = l.place }))) (map record_of l.records)
-          ≡ with_record l.name (with_waiting (record { circuit = l.circuit; place = l.place })) (map record_of l.initial.records);
+          map_from l.record-index (if_named l.name (with_waiting (place_of l.put))) (map record_of l.records)
+          ≡ with_record l.name (with_waiting (place_of l.put)) (map record_of l.initial.records);
       room : (k : ℕ) (r : RecordSide) → l.record-index ≤ k → At l.records k r → MayWait l.name r;
     }

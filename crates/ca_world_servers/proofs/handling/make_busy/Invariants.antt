@@ -1,6 +1,6 @@
 use Rattle.std.proofs.Common.{◌≡◌, map}
 use Rattle.ca_model.specs.ServerEvents.{with_record}
-use Rattle.ca_world_data.specs.Seen.{record_of}
+use Rattle.ca_world_data.specs.Seen.{place_of, record_of}
 use Rattle.ca_world_data.proofs.Gone.{map_from}
 use Rattle.ca_world_servers.specs.Handling.{made_busy}
 use Rattle.ca_world_servers.proofs.Handled.{if_named}
@@ -11,6 +11,6 @@ abbrev pub invariant-loop-record : goal.invariant-loop-record
 invariant-loop-record l =
     record {
       records :
-          map_from l.record-index (if_named l.name (made_busy (record { circuit = l.circuit; place = l.place }))) (map record_of l.records)
-          ≡ with_record l.name (made_busy (record { circuit = l.circuit; place = l.place })) (map record_of l.initial.records);
+          map_from l.record-index (if_named l.name (made_busy (place_of l.put))) (map record_of l.records)
+          ≡ with_record l.name (made_busy (place_of l.put)) (map record_of l.initial.records);
     }

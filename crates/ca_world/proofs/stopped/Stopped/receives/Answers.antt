@@ -1,4 +1,4 @@
-use Rattle.std.proofs.Common.{ℕ, sym, subst, arith}
+use Rattle.std.proofs.Common.{ℕ, sym, subst}
 use Rattle.ca_model.specs.World.{World}
 use Rattle.ca_world.specs.Waiting.{Receives}
 use Rattle.ca_world_data.specs.Logs.{lines_in}
@@ -11,7 +11,7 @@ pub returns-in_default : goal.returns-in_default
 returns-in_default c =
     let w = c.self.inside in
     let k : ℕ = c.args.circuit in
-    let none = no-ends-here w.clients.items w.servers.items w.circuits.items c.deref.result.now c.len.result c.len-2.result k (omega (arith, c.len.ensures)) (omega (arith, c.len-2.ensures)) c.deref.ensures.value c.in_default.ensures in (
+    let none = no-ends-here w.clients.items w.servers.items w.circuits.items c.deref.result.now c.deref-2.result.now c.deref-3.result.now k c.deref.ensures.value c.deref-2.ensures.value c.deref-3.ensures.value c.in_default.ensures in (
       λ never. absurd cc,
       λ can.
           absurd
@@ -23,12 +23,12 @@ pub returns-in-Up : goal.returns-in-Up
 returns-in-Up c =
     let w = c.self.inside in
     let k : ℕ = c.args.circuit in
-    let a = ends-here w.clients.items w.servers.items w.circuits.items c.deref.result.now c.len.result c.len-2.result k c.in-Some.ends (omega (arith, c.len.ensures)) (omega (arith, c.len-2.ensures)) c.deref.ensures.value c.in-Some.ensures in
+    let a = ends-here w.clients.items w.servers.items w.circuits.items c.deref.result.now c.deref-2.result.now c.deref-3.result.now k c.in-Some.ends c.deref.ensures.value c.deref-2.ensures.value c.deref-3.ensures.value c.in-Some.ensures in
     receives-up w.clients.items w.servers.items w.circuits.items (lines_in w.client_logs.items) (entries_in w.server_logs.items) w.moment k c.in-Some.ends a c.args.self.now c.args.way c.self.view_is c.in-Up.is
 
 pub returns-in-Down : goal.returns-in-Down
 returns-in-Down c =
     let w = c.self.inside in
     let k : ℕ = c.args.circuit in
-    let a = ends-here w.clients.items w.servers.items w.circuits.items c.deref.result.now c.len.result c.len-2.result k c.in-Some.ends (omega (arith, c.len.ensures)) (omega (arith, c.len-2.ensures)) c.deref.ensures.value c.in-Some.ensures in
+    let a = ends-here w.clients.items w.servers.items w.circuits.items c.deref.result.now c.deref-2.result.now c.deref-3.result.now k c.in-Some.ends c.deref.ensures.value c.deref-2.ensures.value c.deref-3.ensures.value c.in-Some.ensures in
     receives-down w.clients.items w.servers.items w.circuits.items (lines_in w.client_logs.items) (entries_in w.server_logs.items) w.moment k c.in-Some.ends a c.args.self.now c.args.way c.self.view_is c.in-Down.is

@@ -1,4 +1,4 @@
-use Rattle.std.proofs.Common.{◌≡◌, ℕ, ◌<◌, length, List, refl, arith, subst, ◌∙◌}
+use Rattle.std.proofs.Common.{◌≡◌, ℕ, ◌<◌, length, List, refl, arith, subst}
 use Rattle.std.specs.Prelude.{map, slice_set}
 use Rattle.ca_text.specs.Place.{At}
 use Rattle.ca_text.proofs.Places.{At-map, At-within}
@@ -24,7 +24,7 @@ returns-in_default c =
     let cs : List ClientSide = w.clients.items in
     let ss : List ServerSide = w.servers.items in
     let ks : List Joined = w.circuits.items in
-    let none = no-ends-here cs ss ks c.deref.result.now c.len.result c.len-2.result c.args.circuit (omega (arith, c.len.ensures)) (omega (arith, c.len-2.ensures)) c.deref.ensures.value c.in_default.ensures in
+    let none = no-ends-here cs ss ks c.deref.result.now c.deref-2.result.now c.deref-3.result.now c.args.circuit c.deref.ensures.value c.deref-2.ensures.value c.deref-3.ensures.value c.in_default.ensures in
     subst (λ (v : model.World). (CanBe v (ClientStep c.args.circuit) → ⊥) × (v ≡ v)) c.self.view_is
     (step-none cs ss ks _ _ w.moment c.args.circuit none, refl)
 
@@ -34,7 +34,7 @@ returns-then-not-ends c =
     let cs : List ClientSide = w.clients.items in
     let ss : List ServerSide = w.servers.items in
     let ks : List Joined = w.circuits.items in
-    let a = ends-here cs ss ks c.deref.result.now c.len.result c.len-2.result c.args.circuit c.in-Some.ends (omega (arith, c.len.ensures)) (omega (arith, c.len-2.ensures)) c.deref.ensures.value c.in-Some.ensures in
+    let a = ends-here cs ss ks c.deref.result.now c.deref-2.result.now c.deref-3.result.now c.args.circuit c.in-Some.ends c.deref.ensures.value c.deref-2.ensures.value c.deref-3.ensures.value c.in-Some.ensures in
     subst (λ (v : model.World). (CanBe v (ClientStep c.args.circuit) → ⊥) × (v ≡ v)) c.self.view_is
     (step-off cs ss ks _ _ w.moment c.args.circuit c.in-Some.ends a (not-open c.in-Some.ends.client_open c.if-not-ends.true), refl)
 
@@ -42,7 +42,7 @@ pub step_or_rest-requires-clause-there : goal.step_or_rest-requires-clause-there
 step_or_rest-requires-clause-there c =
     let w = c.self.inside in
     let ks : List Joined = w.circuits.items in
-    let a = ends-here w.clients.items w.servers.items ks c.deref.result.now c.len.result c.len-2.result c.args.circuit c.in-Some.ends (omega (arith, c.len.ensures)) (omega (arith, c.len-2.ensures)) c.deref.ensures.value c.in-Some.ensures in
+    let a = ends-here w.clients.items w.servers.items ks c.deref.result.now c.deref-2.result.now c.deref-3.result.now c.args.circuit c.in-Some.ends c.deref.ensures.value c.deref-2.ensures.value c.deref-3.ensures.value c.in-Some.ensures in
     At-within ks c.args.circuit a.j a.at
 
 pub step_or_rest-requires-clause-numbered : goal.step_or_rest-requires-clause-numbered
@@ -52,7 +52,7 @@ step_or_rest-requires-clause-numbered c =
     let ss : List ServerSide = w.servers.items in
     let ks : List Joined = w.circuits.items in
     let e : Ends = c.in-Some.ends in
-    let a = ends-here cs ss ks c.deref.result.now c.len.result c.len-2.result c.args.circuit e (omega (arith, c.len.ensures)) (omega (arith, c.len-2.ensures)) c.deref.ensures.value c.in-Some.ensures in
+    let a = ends-here cs ss ks c.deref.result.now c.deref-2.result.now c.deref-3.result.now c.args.circuit e c.deref.ensures.value c.deref-2.ensures.value c.deref-3.ensures.value c.in-Some.ensures in
     let x : ClientSide = c.index_mut.result.now in
     let client : At cs e.client x = found cs e.client x x (ends-client (length cs) (length ss) ks c.args.circuit e a) c.index_mut.ensures.value in
     numbered-here w e.client x client c.self.invariant
@@ -64,7 +64,7 @@ step_or_rest-requires-clause-lives c =
     let ss : List ServerSide = w.servers.items in
     let ks : List Joined = w.circuits.items in
     let e : Ends = c.in-Some.ends in
-    let a = ends-here cs ss ks c.deref.result.now c.len.result c.len-2.result c.args.circuit e (omega (arith, c.len.ensures)) (omega (arith, c.len-2.ensures)) c.deref.ensures.value c.in-Some.ensures in
+    let a = ends-here cs ss ks c.deref.result.now c.deref-2.result.now c.deref-3.result.now c.args.circuit e c.deref.ensures.value c.deref-2.ensures.value c.deref-3.ensures.value c.in-Some.ensures in
     let x : ClientSide = c.index_mut.result.now in
     let client : At cs e.client x = found cs e.client x x (ends-client (length cs) (length ss) ks c.args.circuit e a) c.index_mut.ensures.value in
     here-lives w e.client x client c.self.invariant
@@ -76,7 +76,7 @@ step_or_rest-requires-clause-meant c =
     let ss : List ServerSide = w.servers.items in
     let ks : List Joined = w.circuits.items in
     let e : Ends = c.in-Some.ends in
-    let a = ends-here cs ss ks c.deref.result.now c.len.result c.len-2.result c.args.circuit e (omega (arith, c.len.ensures)) (omega (arith, c.len-2.ensures)) c.deref.ensures.value c.in-Some.ensures in
+    let a = ends-here cs ss ks c.deref.result.now c.deref-2.result.now c.deref-3.result.now c.args.circuit e c.deref.ensures.value c.deref-2.ensures.value c.deref-3.ensures.value c.in-Some.ensures in
     let x : ClientSide = c.index_mut.result.now in
     let client : At cs e.client x = found cs e.client x x (ends-client (length cs) (length ss) ks c.args.circuit e a) c.index_mut.ensures.value in
     c.self.invariant.named e.client (client_of x) (At-map client_of cs e.client x client)
@@ -88,7 +88,7 @@ step_or_rest-requires-clause-few c =
     let ss : List ServerSide = w.servers.items in
     let ks : List Joined = w.circuits.items in
     let e : Ends = c.in-Some.ends in
-    let a = ends-here cs ss ks c.deref.result.now c.len.result c.len-2.result c.args.circuit e (omega (arith, c.len.ensures)) (omega (arith, c.len-2.ensures)) c.deref.ensures.value c.in-Some.ensures in
+    let a = ends-here cs ss ks c.deref.result.now c.deref-2.result.now c.deref-3.result.now c.args.circuit e c.deref.ensures.value c.deref-2.ensures.value c.deref-3.ensures.value c.in-Some.ensures in
     let x : ClientSide = c.index_mut.result.now in
     let client : At cs e.client x = found cs e.client x x (ends-client (length cs) (length ss) ks c.args.circuit e a) c.index_mut.ensures.value in
     here-few w e.client x client c.self.invariant c.args.circuit (map joined_of ks)
@@ -101,7 +101,7 @@ step_or_rest-requires-clause-comes c =
     let ks : List Joined = w.circuits.items in
     let e : Ends = c.in-Some.ends in
     let k : ℕ = c.args.circuit in
-    let a = ends-here cs ss ks c.deref.result.now c.len.result c.len-2.result k e (omega (arith, c.len.ensures)) (omega (arith, c.len-2.ensures)) c.deref.ensures.value c.in-Some.ensures in
+    let a = ends-here cs ss ks c.deref.result.now c.deref-2.result.now c.deref-3.result.now k e c.deref.ensures.value c.deref-2.ensures.value c.deref-3.ensures.value c.in-Some.ensures in
     let y : ServerSide = c.index.result.now in
     let server : At ss e.server y = found ss e.server y y (ends-server (length cs) (length ss) ks k e a) c.index.ensures in
     let j : Joined = c.index-2.result.now in
@@ -114,7 +114,7 @@ pub index-requires-2 : goal.index-requires-2
 index-requires-2 c =
     let w = c.self.inside in
     let ks : List Joined = w.circuits.items in
-    let a = ends-here w.clients.items w.servers.items ks c.deref.result.now c.len.result c.len-2.result c.args.circuit c.in-Some.ends (omega (arith, c.len.ensures)) (omega (arith, c.len-2.ensures)) c.deref.ensures.value c.in-Some.ensures in
+    let a = ends-here w.clients.items w.servers.items ks c.deref.result.now c.deref-2.result.now c.deref-3.result.now c.args.circuit c.in-Some.ends c.deref.ensures.value c.deref-2.ensures.value c.deref-3.ensures.value c.in-Some.ensures in
     let within : c.args.circuit < length ks = At-within ks c.args.circuit a.j a.at in
     omega (arith, within)
 
@@ -126,7 +126,7 @@ returns c =
     let ss : List ServerSide = w.servers.items in
     let ks : List Joined = w.circuits.items in
     let e : Ends = c.in-Some.ends in
-    let a = ends-here cs ss ks c.deref.result.now c.len.result c.len-2.result k e (omega (arith, c.len.ensures)) (omega (arith, c.len-2.ensures)) c.deref.ensures.value c.in-Some.ensures in
+    let a = ends-here cs ss ks c.deref.result.now c.deref-2.result.now c.deref-3.result.now k e c.deref.ensures.value c.deref-2.ensures.value c.deref-3.ensures.value c.in-Some.ensures in
     let x : ClientSide = c.index_mut.result.now in
     let x' : ClientSide = c.step_or_rest.new.side in
     let logs = lines_in c.step_or_rest.new.logs.items in
@@ -145,7 +145,7 @@ invariant_of-self c =
     let ss : List ServerSide = w.servers.items in
     let ks : List Joined = w.circuits.items in
     let e : Ends = c.in-Some.ends in
-    let a = ends-here cs ss ks c.deref.result.now c.len.result c.len-2.result k e (omega (arith, c.len.ensures)) (omega (arith, c.len-2.ensures)) c.deref.ensures.value c.in-Some.ensures in
+    let a = ends-here cs ss ks c.deref.result.now c.deref-2.result.now c.deref-3.result.now k e c.deref.ensures.value c.deref-2.ensures.value c.deref-3.ensures.value c.in-Some.ensures in
     let x : ClientSide = c.index_mut.result.now in
     let x' : ClientSide = c.step_or_rest.new.side in
     let logs = lines_in c.step_or_rest.new.logs.items in

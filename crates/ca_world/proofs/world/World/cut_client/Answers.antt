@@ -28,7 +28,7 @@ returns-in_default c =
     let cs : List ClientSide = w.clients.items in
     let ss : List ServerSide = w.servers.items in
     let ks : List Joined = w.circuits.items in
-    let none = no-ends-here cs ss ks c.deref.result.now c.len.result c.len-2.result c.args.circuit (omega (arith, c.len.ensures)) (omega (arith, c.len-2.ensures)) c.deref.ensures.value c.in_default.ensures in
+    let none = no-ends-here cs ss ks c.deref.result.now c.deref-2.result.now c.deref-3.result.now c.args.circuit c.deref.ensures.value c.deref-2.ensures.value c.deref-3.ensures.value c.in_default.ensures in
     subst (λ (v : World). (CanBe v (CutClient c.args.circuit) → ⊥) × (v ≡ v)) c.self.view_is
     (apart-none cs ss ks _ _ w.moment c.args.circuit none, refl)
 
@@ -38,7 +38,7 @@ returns-then-not-ends c =
     let cs : List ClientSide = w.clients.items in
     let ss : List ServerSide = w.servers.items in
     let ks : List Joined = w.circuits.items in
-    let a = ends-here cs ss ks c.deref.result.now c.len.result c.len-2.result c.args.circuit c.in-Some.ends (omega (arith, c.len.ensures)) (omega (arith, c.len-2.ensures)) c.deref.ensures.value c.in-Some.ensures in
+    let a = ends-here cs ss ks c.deref.result.now c.deref-2.result.now c.deref-3.result.now c.args.circuit c.in-Some.ends c.deref.ensures.value c.deref-2.ensures.value c.deref-3.ensures.value c.in-Some.ensures in
     subst (λ (v : World). (CanBe v (CutClient c.args.circuit) → ⊥) × (v ≡ v)) c.self.view_is
     (apart-off cs ss ks _ _ w.moment c.args.circuit c.in-Some.ends a (not-open c.in-Some.ends.client_open c.if-not-ends.true), refl)
 
@@ -46,7 +46,7 @@ pub index_mut-requires-2 : goal.index_mut-requires-2
 index_mut-requires-2 c =
     let w = c.self.inside in
     let ks : List Joined = w.circuits.items in
-    let a = ends-here w.clients.items w.servers.items ks c.deref.result.now c.len.result c.len-2.result c.args.circuit c.in-Some.ends (omega (arith, c.len.ensures)) (omega (arith, c.len-2.ensures)) c.deref.ensures.value c.in-Some.ensures in
+    let a = ends-here w.clients.items w.servers.items ks c.deref.result.now c.deref-2.result.now c.deref-3.result.now c.args.circuit c.in-Some.ends c.deref.ensures.value c.deref-2.ensures.value c.deref-3.ensures.value c.in-Some.ensures in
     let within : c.args.circuit < length ks = At-within ks c.args.circuit a.j a.at in
     omega (arith, within)
 
@@ -60,7 +60,7 @@ cut_at-requires c =
     let sl : List (List history.Entry) = entries_in w.server_logs.items in
     let e : Ends = c.in-Some.ends in
     let k : ℕ = c.args.circuit in
-    let a = ends-here cs ss ks c.deref.result.now c.len.result c.len-2.result k e (omega (arith, c.len.ensures)) (omega (arith, c.len-2.ensures)) c.deref.ensures.value c.in-Some.ensures in
+    let a = ends-here cs ss ks c.deref.result.now c.deref-2.result.now c.deref-3.result.now k e c.deref.ensures.value c.deref-2.ensures.value c.deref-3.ensures.value c.in-Some.ensures in
     let x : ClientSide = c.index_mut.result.now in
     let client : At cs e.client x = found cs e.client x x (ends-client (length cs) (length ss) ks k e a) c.index_mut.ensures.value in
     apart-few cs ss ks cl sl w.moment k e a c.index_mut-2.result.now x client c.self.invariant.reached c.self.invariant.quiet
@@ -75,7 +75,7 @@ returns c =
     let sl : List (List history.Entry) = entries_in w.server_logs.items in
     let e : Ends = c.in-Some.ends in
     let k : ℕ = c.args.circuit in
-    let a = ends-here cs ss ks c.deref.result.now c.len.result c.len-2.result k e (omega (arith, c.len.ensures)) (omega (arith, c.len-2.ensures)) c.deref.ensures.value c.in-Some.ensures in
+    let a = ends-here cs ss ks c.deref.result.now c.deref-2.result.now c.deref-3.result.now k e c.deref.ensures.value c.deref-2.ensures.value c.deref-3.ensures.value c.in-Some.ensures in
     let x : ClientSide = c.index_mut.result.now in
     let client : At cs e.client x = found cs e.client x x (ends-client (length cs) (length ss) ks k e a) c.index_mut.ensures.value in
     let j : Joined = c.index_mut-2.result.now in
@@ -98,7 +98,7 @@ invariant_of-self c =
     let sl : List (List history.Entry) = entries_in w.server_logs.items in
     let e : Ends = c.in-Some.ends in
     let k : ℕ = c.args.circuit in
-    let a = ends-here cs ss ks c.deref.result.now c.len.result c.len-2.result k e (omega (arith, c.len.ensures)) (omega (arith, c.len-2.ensures)) c.deref.ensures.value c.in-Some.ensures in
+    let a = ends-here cs ss ks c.deref.result.now c.deref-2.result.now c.deref-3.result.now k e c.deref.ensures.value c.deref-2.ensures.value c.deref-3.ensures.value c.in-Some.ensures in
     let x : ClientSide = c.index_mut.result.now in
     let client : At cs e.client x = found cs e.client x x (ends-client (length cs) (length ss) ks k e a) c.index_mut.ensures.value in
     let j : Joined = c.index_mut-2.result.now in

@@ -16,7 +16,7 @@ use Rattle.ca_world_data.specs.Indexed.{client_numbers, server_numbers}
 use Rattle.ca_world_data.specs.Opening.{entries_in}
 use Rattle.ca_world_data.specs.Seen.{joined_of, line_of}
 use Rattle.ca_world.proofs.Cuttings.{cut-by, cut-keeps, cut-none, cut-off, cut-serves}
-use Rattle.ca_world_data.proofs.Indexes.{indexed-circuit, indexed-same, numbers-set}
+use Rattle.ca_world_data.proofs.Indexes.{indexed-circuit, indexed-server}
 use Rattle.ca_world.proofs.Lasting.{all-stand}
 use Rattle.ca_world_data.proofs.Worlds.{ends-here, ends-server, found, is-open, no-ends-here, not-open, set-map, world_of}
 use Rattle.ca_world.proofs.world.World.cut_server.Goals as goal
@@ -27,7 +27,7 @@ returns-in_default c =
     let cs : List ClientSide = w.clients.items in
     let ss : List ServerSide = w.servers.items in
     let ks : List Joined = w.circuits.items in
-    let none = no-ends-here cs ss ks c.deref.result.now c.len.result c.len-2.result c.args.circuit (omega (arith, c.len.ensures)) (omega (arith, c.len-2.ensures)) c.deref.ensures.value c.in_default.ensures in
+    let none = no-ends-here cs ss ks c.deref.result.now c.deref-2.result.now c.deref-3.result.now c.args.circuit c.deref.ensures.value c.deref-2.ensures.value c.deref-3.ensures.value c.in_default.ensures in
     subst (λ (v : World). (CanBe v (CutServer c.args.circuit) → ⊥) × (v ≡ v)) c.self.view_is
     (cut-none cs ss ks _ _ w.moment c.args.circuit none, refl)
 
@@ -37,7 +37,7 @@ returns-then-not-ends c =
     let cs : List ClientSide = w.clients.items in
     let ss : List ServerSide = w.servers.items in
     let ks : List Joined = w.circuits.items in
-    let a = ends-here cs ss ks c.deref.result.now c.len.result c.len-2.result c.args.circuit c.in-Some.ends (omega (arith, c.len.ensures)) (omega (arith, c.len-2.ensures)) c.deref.ensures.value c.in-Some.ensures in
+    let a = ends-here cs ss ks c.deref.result.now c.deref-2.result.now c.deref-3.result.now c.args.circuit c.in-Some.ends c.deref.ensures.value c.deref-2.ensures.value c.deref-3.ensures.value c.in-Some.ensures in
     subst (λ (v : World). (CanBe v (CutServer c.args.circuit) → ⊥) × (v ≡ v)) c.self.view_is
     (cut-off cs ss ks _ _ w.moment c.args.circuit c.in-Some.ends a (not-open c.in-Some.ends.server_open c.if-not-ends.true), refl)
 
@@ -45,7 +45,7 @@ pub index_mut-requires-2 : goal.index_mut-requires-2
 index_mut-requires-2 c =
     let w = c.self.inside in
     let ks : List Joined = w.circuits.items in
-    let a = ends-here w.clients.items w.servers.items ks c.deref.result.now c.len.result c.len-2.result c.args.circuit c.in-Some.ends (omega (arith, c.len.ensures)) (omega (arith, c.len-2.ensures)) c.deref.ensures.value c.in-Some.ensures in
+    let a = ends-here w.clients.items w.servers.items ks c.deref.result.now c.deref-2.result.now c.deref-3.result.now c.args.circuit c.in-Some.ends c.deref.ensures.value c.deref-2.ensures.value c.deref-3.ensures.value c.in-Some.ensures in
     let within : c.args.circuit < length ks = At-within ks c.args.circuit a.j a.at in
     omega (arith, within)
 
@@ -59,7 +59,7 @@ cut_at-requires c =
     let sl : List (List history.Entry) = entries_in w.server_logs.items in
     let e : Ends = c.in-Some.ends in
     let k : ℕ = c.args.circuit in
-    let a = ends-here cs ss ks c.deref.result.now c.len.result c.len-2.result k e (omega (arith, c.len.ensures)) (omega (arith, c.len-2.ensures)) c.deref.ensures.value c.in-Some.ensures in
+    let a = ends-here cs ss ks c.deref.result.now c.deref-2.result.now c.deref-3.result.now k e c.deref.ensures.value c.deref-2.ensures.value c.deref-3.ensures.value c.in-Some.ensures in
     let y : ServerSide = c.index_mut.result.now in
     let server : At ss e.server y = found ss e.server y y (ends-server (length cs) (length ss) ks k e a) c.index_mut.ensures.value in
     let j : Joined = c.index_mut-2.result.now in
@@ -77,7 +77,7 @@ returns c =
     let sl : List (List history.Entry) = entries_in w.server_logs.items in
     let e : Ends = c.in-Some.ends in
     let k : ℕ = c.args.circuit in
-    let a = ends-here cs ss ks c.deref.result.now c.len.result c.len-2.result k e (omega (arith, c.len.ensures)) (omega (arith, c.len-2.ensures)) c.deref.ensures.value c.in-Some.ensures in
+    let a = ends-here cs ss ks c.deref.result.now c.deref-2.result.now c.deref-3.result.now k e c.deref.ensures.value c.deref-2.ensures.value c.deref-3.ensures.value c.in-Some.ensures in
     let y : ServerSide = c.index_mut.result.now in
     let server : At ss e.server y = found ss e.server y y (ends-server (length cs) (length ss) ks k e a) c.index_mut.ensures.value in
     let j : Joined = c.index_mut-2.result.now in
@@ -100,7 +100,7 @@ invariant_of-self c =
     let sl : List (List history.Entry) = entries_in w.server_logs.items in
     let e : Ends = c.in-Some.ends in
     let k : ℕ = c.args.circuit in
-    let a = ends-here cs ss ks c.deref.result.now c.len.result c.len-2.result k e (omega (arith, c.len.ensures)) (omega (arith, c.len-2.ensures)) c.deref.ensures.value c.in-Some.ensures in
+    let a = ends-here cs ss ks c.deref.result.now c.deref-2.result.now c.deref-3.result.now k e c.deref.ensures.value c.deref-2.ensures.value c.deref-3.ensures.value c.in-Some.ensures in
     let y : ServerSide = c.index_mut.result.now in
     let server : At ss e.server y = found ss e.server y y (ends-server (length cs) (length ss) ks k e a) c.index_mut.ensures.value in
     let j : Joined = c.index_mut-2.result.now in
@@ -113,9 +113,5 @@ invariant_of-self c =
     let d = cut-by cs ss ks cl sl w.moment k e a j j' y y' sl' c.cut_at.result at server on c.self.invariant.reached c.cut_at.ensures in
     let kept = cut-keeps k y y' j j' sl sl' c.cut_at.result c.cut_at.ensures in
     let moved = indexed-circuit (client_numbers cs) (server_numbers ss) (map joined_of ks) c.self.invariant.indexed k (joined_of j) (joined_of j') (At-map joined_of ks k j at) kept.1 in
-    let indexed = indexed-same (client_numbers cs) (client_numbers cs) (server_numbers ss) (server_numbers (slice_set ss e.server y')) (slice_set (map joined_of ks) k (joined_of j')) (map joined_of (slice_set ks k j'))
-    refl
-    (numbers-set (λ (z : ServerSide). z.circuits.items) ss e.server y y' server kept.0)
-    (set-map joined_of ks k j')
-    moved in
+    let indexed = indexed-server (client_numbers cs) ss e.server y y' (slice_set (map joined_of ks) k (joined_of j')) (map joined_of (slice_set ks k j')) server kept.0 (set-map joined_of ks k j') moved in
     all-stand w _ (CutServer k) tt c.cut_at.result d c.self.invariant indexed

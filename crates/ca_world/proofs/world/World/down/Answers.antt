@@ -1,4 +1,4 @@
-use Rattle.std.proofs.Common.{◌≡◌, ℕ, ◌<◌, length, List, refl, arith, subst}
+use Rattle.std.proofs.Common.{◌≡◌, ℕ, ◌<◌, length, List, refl, subst}
 use Rattle.std.specs.Prelude.{map, slice_set}
 use Rattle.ca_text.specs.Place.{At}
 use Rattle.ca_text.proofs.Places.{At-map, At-within}
@@ -26,7 +26,7 @@ returns-in_default c =
     let cs : List ClientSide = w.clients.items in
     let ss : List ServerSide = w.servers.items in
     let ks : List Joined = w.circuits.items in
-    let none = no-ends-here cs ss ks c.deref.result.now c.len.result c.len-2.result c.args.circuit (omega (arith, c.len.ensures)) (omega (arith, c.len-2.ensures)) c.deref.ensures.value c.in_default.ensures in
+    let none = no-ends-here cs ss ks c.deref.result.now c.deref-2.result.now c.deref-3.result.now c.args.circuit c.deref.ensures.value c.deref-2.ensures.value c.deref-3.ensures.value c.in_default.ensures in
     subst (λ (v : World). (CanBe v (Down c.args.circuit c.args.n) → ⊥) × (v ≡ v)) c.self.view_is
     (down-none cs ss ks _ _ w.moment c.args.circuit c.args.n none, refl)
 
@@ -36,7 +36,7 @@ returns-then-not-ends c =
     let cs : List ClientSide = w.clients.items in
     let ss : List ServerSide = w.servers.items in
     let ks : List Joined = w.circuits.items in
-    let a = ends-here cs ss ks c.deref.result.now c.len.result c.len-2.result c.args.circuit c.in-Some.ends (omega (arith, c.len.ensures)) (omega (arith, c.len-2.ensures)) c.deref.ensures.value c.in-Some.ensures in
+    let a = ends-here cs ss ks c.deref.result.now c.deref-2.result.now c.deref-3.result.now c.args.circuit c.in-Some.ends c.deref.ensures.value c.deref-2.ensures.value c.deref-3.ensures.value c.in-Some.ensures in
     subst (λ (v : World). (CanBe v (Down c.args.circuit c.args.n) → ⊥) × (v ≡ v)) c.self.view_is
     (down-off cs ss ks _ _ w.moment c.args.circuit c.args.n c.in-Some.ends a (not-open c.in-Some.ends.client_open c.if-not-ends.true), refl)
 
@@ -51,7 +51,7 @@ returns-then-ends c =
     let e : Ends = c.in-Some.ends in
     let k : ℕ = c.args.circuit in
     let n : ℕ = c.args.n in
-    let a = ends-here cs ss ks c.deref.result.now c.len.result c.len-2.result k e (omega (arith, c.len.ensures)) (omega (arith, c.len-2.ensures)) c.deref.ensures.value c.in-Some.ensures in
+    let a = ends-here cs ss ks c.deref.result.now c.deref-2.result.now c.deref-3.result.now k e c.deref.ensures.value c.deref-2.ensures.value c.deref-3.ensures.value c.in-Some.ensures in
     let x : ClientSide = c.index_mut-side.result.now in
     let client : At cs e.client x = found cs e.client x x (ends-client (length cs) (length ss) ks k e a) c.index_mut-side.ensures.value in
     let j : Joined = c.index_mut-joined.result.now in
@@ -79,7 +79,7 @@ returns c =
     let e : Ends = c.in-Some.ends in
     let k : ℕ = c.args.circuit in
     let n : ℕ = c.args.n in
-    let a = ends-here cs ss ks c.deref.result.now c.len.result c.len-2.result k e (omega (arith, c.len.ensures)) (omega (arith, c.len-2.ensures)) c.deref.ensures.value c.in-Some.ensures in
+    let a = ends-here cs ss ks c.deref.result.now c.deref-2.result.now c.deref-3.result.now k e c.deref.ensures.value c.deref-2.ensures.value c.deref-3.ensures.value c.in-Some.ensures in
     let x : ClientSide = c.index_mut-side.result.now in
     let client : At cs e.client x = found cs e.client x x (ends-client (length cs) (length ss) ks k e a) c.index_mut-side.ensures.value in
     let j : Joined = c.index_mut-joined.result.now in
@@ -104,7 +104,7 @@ invariant_of-self c =
     let e : Ends = c.in-Some.ends in
     let k : ℕ = c.args.circuit in
     let n : ℕ = c.args.n in
-    let a = ends-here cs ss ks c.deref.result.now c.len.result c.len-2.result k e (omega (arith, c.len.ensures)) (omega (arith, c.len-2.ensures)) c.deref.ensures.value c.in-Some.ensures in
+    let a = ends-here cs ss ks c.deref.result.now c.deref-2.result.now c.deref-3.result.now k e c.deref.ensures.value c.deref-2.ensures.value c.deref-3.ensures.value c.in-Some.ensures in
     let x : ClientSide = c.index_mut-side.result.now in
     let client : At cs e.client x = found cs e.client x x (ends-client (length cs) (length ss) ks k e a) c.index_mut-side.ensures.value in
     let j : Joined = c.index_mut-joined.result.now in
@@ -138,7 +138,7 @@ invariant_of-self-2 c =
     let e : Ends = c.in-Some.ends in
     let k : ℕ = c.args.circuit in
     let n : ℕ = c.args.n in
-    let a = ends-here cs ss ks c.deref.result.now c.len.result c.len-2.result k e (omega (arith, c.len.ensures)) (omega (arith, c.len-2.ensures)) c.deref.ensures.value c.in-Some.ensures in
+    let a = ends-here cs ss ks c.deref.result.now c.deref-2.result.now c.deref-3.result.now k e c.deref.ensures.value c.deref-2.ensures.value c.deref-3.ensures.value c.in-Some.ensures in
     let x : ClientSide = c.index_mut-side.result.now in
     let client : At cs e.client x = found cs e.client x x (ends-client (length cs) (length ss) ks k e a) c.index_mut-side.ensures.value in
     let j : Joined = c.index_mut-joined.result.now in

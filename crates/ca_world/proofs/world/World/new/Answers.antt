@@ -11,7 +11,9 @@ use Rattle.ca_laws_parts.proofs.RunsEvents.{stands-opening}
 use Rattle.ca_world_data.specs.Indexed.{AreIndexed, client_numbers, server_numbers}
 use Rattle.ca_world.specs.Whole.{CameAbout, IsReached}
 use Rattle.ca_world_data.specs.Named.{AreMeant}
+use Rattle.ca_world_data.specs.Restarts.{address_of}
 use Rattle.ca_world_data.specs.Seen.{joined_of}
+use Rattle.ca_world_data.proofs.Restarting.{addresses-begun}
 use Rattle.ca_world.proofs.Meanings.{mean-opening}
 use Rattle.ca_world.proofs.world.World.new.Goals as goal
 
@@ -19,7 +21,7 @@ pub invariant_of-result : goal.invariant_of-result
 invariant_of-result c =
     let s : Setting = record { clients = c.config.inside.clients.items; servers = c.config.inside.servers.items } in
     let none : map joined_of c.new.result.items ≡ [] = ap (map joined_of) c.new.ensures.items in
-    let known : c.deref-2.result.now ≡ addresses s.servers = c.deref-2.ensures.value ∙ c.in_ok-servers_at.ensures ∙ ap addresses c.deref.ensures.value in
+    let known : c.deref-2.result.now ≡ addresses s.servers = c.deref-2.ensures.value ∙ c.in_ok-servers_at.ensures ∙ ap (map address_of) c.deref.ensures.value ∙ addresses-begun s.servers c.in_ok-servers.servers.items c.in_ok-servers.ensures.0 in
     let is : _ ≡ opening s = λ t. record {
       clients = (c.in_ok-clients.ensures.0 ∙ ap (λ (a : List Address). numbered 0 (client_begun a 0) s.clients) known) t;
       servers = c.in_ok-servers.ensures.0 t;

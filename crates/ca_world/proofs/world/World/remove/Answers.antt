@@ -1,15 +1,14 @@
-use Rattle.std.proofs.Common.{ℕ, ◌<◌, length, List, arith, subst, sym}
+use Rattle.std.proofs.Common.{ℕ, ◌<◌, length, List, arith, subst}
 use Rattle.std.specs.Prelude.{map, slice_set}
 use Rattle.ca_text.specs.Place.{At}
 use Rattle.ca_text.proofs.Places.{At-map}
 use Rattle.ca_model.specs.Events.{Remove}
-use Rattle.ca_model.specs.Runs.{IsServer}
 use Rattle.ca_model.specs.World.{World}
 use Rattle.ca_model.specs.History as history
 use Rattle.ca_world_data.specs.declared.client.ClientSide.{ClientSide}
 use Rattle.ca_world_data.specs.declared.joined.Joined.{Joined}
 use Rattle.ca_world_data.specs.declared.server.ServerSide.{ServerSide}
-use Rattle.ca_world_data.specs.Does.{Does, MayLack}
+use Rattle.ca_world_data.specs.Does.{Does}
 use Rattle.ca_world_data.specs.Indexed.{client_numbers, server_numbers}
 use Rattle.ca_world_data.specs.Logs.{lines_in}
 use Rattle.ca_world_data.specs.Opening.{entries_in}
@@ -19,8 +18,8 @@ use Rattle.ca_world_data.proofs.Worlds.{found, world_of}
 use Rattle.ca_world_servers.specs.Removing.{RemovesAt}
 use Rattle.ca_world.specs.Whole.{seen}
 use Rattle.ca_world.proofs.Lasting.{all-stand}
-use Rattle.ca_world.proofs.Waits.{server-here}
-use Rattle.ca_world.proofs.Removings.{remove-does, remove-indexed, run-seated}
+use Rattle.ca_world.proofs.Removings.{remove-does, remove-indexed}
+use Rattle.ca_world.proofs.Seating.{run-seated}
 use Rattle.ca_world.proofs.world.World.remove.Goals as goal
 
 pub remove_at-requires-clause-served : goal.remove_at-requires-clause-served
@@ -36,13 +35,6 @@ remove_at-requires-clause-served c =
 pub remove_at-requires-clause-seated : goal.remove_at-requires-clause-seated
 remove_at-requires-clause-seated c =
     run-seated (seen c.self.inside) c.args.server c.self.invariant.reached
-
-pub may_remove-requires : goal.may_remove-requires
-may_remove-requires c =
-    let w = c.self.inside in
-    let within : c.args.server < length w.servers.items = omega (arith, c.if-server-len.false, c.len.ensures) in
-    subst (λ (v : World). IsServer v c.args.server) c.self.view_is
-    (server-here w.clients.items w.servers.items w.circuits.items (lines_in w.client_logs.items) (entries_in w.server_logs.items) w.moment 0 c.args.server within)
 
 pub returns : goal.returns
 returns c =
@@ -61,8 +53,7 @@ returns c =
     let ks' : List Joined = c.remove_at.new.circuits.items in
     let sl' : List (List history.Entry) = entries_in c.remove_at.new.logs.items in
     let did : RemovesAt i name y (map joined_of ks) sl c.remove_at.result y' (map joined_of ks') sl' = c.remove_at.ensures in
-    let may = subst (λ (v : World). MayLack v (Remove i name)) (sym c.self.view_is) (c.may_remove.ensures.takes c.if-not-may_remove.false) in
-    let d = remove-does cs ss ks cl sl w.moment i y at name may y' ks' sl' c.remove_at.result did in
+    let d = remove-does cs ss ks cl sl w.moment i y at name y' ks' sl' c.remove_at.result did in
     subst (λ (z : World). Does z (Remove i name) c.remove_at.result (world_of cs (slice_set ss i y') ks' cl sl' w.moment)) c.self.view_is d
 
 pub invariant_of-self : goal.invariant_of-self
@@ -82,7 +73,6 @@ invariant_of-self c =
     let ks' : List Joined = c.remove_at.new.circuits.items in
     let sl' : List (List history.Entry) = entries_in c.remove_at.new.logs.items in
     let did : RemovesAt i name y (map joined_of ks) sl c.remove_at.result y' (map joined_of ks') sl' = c.remove_at.ensures in
-    let may = subst (λ (v : World). MayLack v (Remove i name)) (sym c.self.view_is) (c.may_remove.ensures.takes c.if-not-may_remove.false) in
-    let d = remove-does cs ss ks cl sl w.moment i y at name may y' ks' sl' c.remove_at.result did in
+    let d = remove-does cs ss ks cl sl w.moment i y at name y' ks' sl' c.remove_at.result did in
     let indexed = remove-indexed cs ss ks cl sl w.moment i y at name (client_numbers cs) y' ks' sl' c.remove_at.result did c.self.invariant.indexed in
     all-stand w _ (Remove i name) tt c.remove_at.result d c.self.invariant indexed

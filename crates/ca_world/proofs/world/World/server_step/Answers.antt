@@ -30,7 +30,7 @@ returns-in_default c =
     let cs : List ClientSide = w.clients.items in
     let ss : List ServerSide = w.servers.items in
     let ks : List Joined = w.circuits.items in
-    let none = no-ends-here cs ss ks c.deref.result.now c.len.result c.len-2.result c.args.circuit (omega (arith, c.len.ensures)) (omega (arith, c.len-2.ensures)) c.deref.ensures.value c.in_default.ensures in
+    let none = no-ends-here cs ss ks c.deref.result.now c.deref-2.result.now c.deref-3.result.now c.args.circuit c.deref.ensures.value c.deref-2.ensures.value c.deref-3.ensures.value c.in_default.ensures in
     subst (λ (v : World). (CanBe v (ServerStep c.args.circuit) → ⊥) × (v ≡ v)) c.self.view_is
     (pump-none cs ss ks _ _ w.moment c.args.circuit none, refl)
 
@@ -40,7 +40,7 @@ returns-then-not-ends c =
     let cs : List ClientSide = w.clients.items in
     let ss : List ServerSide = w.servers.items in
     let ks : List Joined = w.circuits.items in
-    let a = ends-here cs ss ks c.deref.result.now c.len.result c.len-2.result c.args.circuit c.in-Some.ends (omega (arith, c.len.ensures)) (omega (arith, c.len-2.ensures)) c.deref.ensures.value c.in-Some.ensures in
+    let a = ends-here cs ss ks c.deref.result.now c.deref-2.result.now c.deref-3.result.now c.args.circuit c.in-Some.ends c.deref.ensures.value c.deref-2.ensures.value c.deref-3.ensures.value c.in-Some.ensures in
     subst (λ (v : World). (CanBe v (ServerStep c.args.circuit) → ⊥) × (v ≡ v)) c.self.view_is
     (pump-off cs ss ks _ _ w.moment c.args.circuit c.in-Some.ends a (not-open c.in-Some.ends.server_open c.if-not-ends.true), refl)
 
@@ -48,7 +48,7 @@ pub step_or_rest-requires-clause-within : goal.step_or_rest-requires-clause-with
 step_or_rest-requires-clause-within c =
     let w = c.self.inside in
     let ks : List Joined = w.circuits.items in
-    let a = ends-here w.clients.items w.servers.items ks c.deref.result.now c.len.result c.len-2.result c.args.circuit c.in-Some.ends (omega (arith, c.len.ensures)) (omega (arith, c.len-2.ensures)) c.deref.ensures.value c.in-Some.ensures in
+    let a = ends-here w.clients.items w.servers.items ks c.deref.result.now c.deref-2.result.now c.deref-3.result.now c.args.circuit c.in-Some.ends c.deref.ensures.value c.deref-2.ensures.value c.deref-3.ensures.value c.in-Some.ensures in
     let within : c.args.circuit < length ks = At-within ks c.args.circuit a.j a.at in
     omega (arith, within)
 
@@ -60,7 +60,7 @@ step_or_rest-requires-clause-served c =
     let ks : List Joined = w.circuits.items in
     let e : Ends = c.in-Some.ends in
     let k : ℕ = c.args.circuit in
-    let a = ends-here cs ss ks c.deref.result.now c.len.result c.len-2.result k e (omega (arith, c.len.ensures)) (omega (arith, c.len-2.ensures)) c.deref.ensures.value c.in-Some.ensures in
+    let a = ends-here cs ss ks c.deref.result.now c.deref-2.result.now c.deref-3.result.now k e c.deref.ensures.value c.deref-2.ensures.value c.deref-3.ensures.value c.in-Some.ensures in
     let y : ServerSide = c.index_mut.result.now in
     let server : At ss e.server y = found ss e.server y y (ends-server (length cs) (length ss) ks k e a) c.index_mut.ensures.value in
     served-of (client_numbers cs) (server_numbers ss) (map joined_of ks) c.self.invariant.indexed e.server y.circuits.items (At-map (λ (z : ServerSide). z.circuits.items) ss e.server y server)
@@ -75,7 +75,7 @@ step_or_rest-requires-clause-may c =
     let sl : List (List history.Entry) = entries_in w.server_logs.items in
     let e : Ends = c.in-Some.ends in
     let k : ℕ = c.args.circuit in
-    let a = ends-here cs ss ks c.deref.result.now c.len.result c.len-2.result k e (omega (arith, c.len.ensures)) (omega (arith, c.len-2.ensures)) c.deref.ensures.value c.in-Some.ensures in
+    let a = ends-here cs ss ks c.deref.result.now c.deref-2.result.now c.deref-3.result.now k e c.deref.ensures.value c.deref-2.ensures.value c.deref-3.ensures.value c.in-Some.ensures in
     let y : ServerSide = c.index_mut.result.now in
     let server : At ss e.server y = found ss e.server y y (ends-server (length cs) (length ss) ks k e a) c.index_mut.ensures.value in
     step-may cs ss ks cl sl w.moment k e a y server (is-open e.server_open c.if-not-ends.false) c.self.invariant.reached c.self.invariant.fit
@@ -88,7 +88,7 @@ step_or_rest-requires-clause-counted c =
     let ks : List Joined = w.circuits.items in
     let e : Ends = c.in-Some.ends in
     let k : ℕ = c.args.circuit in
-    let a = ends-here cs ss ks c.deref.result.now c.len.result c.len-2.result k e (omega (arith, c.len.ensures)) (omega (arith, c.len-2.ensures)) c.deref.ensures.value c.in-Some.ensures in
+    let a = ends-here cs ss ks c.deref.result.now c.deref-2.result.now c.deref-3.result.now k e c.deref.ensures.value c.deref-2.ensures.value c.deref-3.ensures.value c.in-Some.ensures in
     let y : ServerSide = c.index_mut.result.now in
     let server : At ss e.server y = found ss e.server y y (ends-server (length cs) (length ss) ks k e a) c.index_mut.ensures.value in
     (run-counted (seen w) c.self.invariant.reached).servers e.server (server_of y) (At-map server_of ss e.server y server)
@@ -103,7 +103,7 @@ step_or_rest-requires-clause-comes c =
     let sl : List (List history.Entry) = entries_in w.server_logs.items in
     let e : Ends = c.in-Some.ends in
     let k : ℕ = c.args.circuit in
-    let a = ends-here cs ss ks c.deref.result.now c.len.result c.len-2.result k e (omega (arith, c.len.ensures)) (omega (arith, c.len-2.ensures)) c.deref.ensures.value c.in-Some.ensures in
+    let a = ends-here cs ss ks c.deref.result.now c.deref-2.result.now c.deref-3.result.now k e c.deref.ensures.value c.deref-2.ensures.value c.deref-3.ensures.value c.in-Some.ensures in
     let x : ClientSide = c.index.result.now in
     let client : At cs e.client x = found cs e.client x x (ends-client (length cs) (length ss) ks k e a) c.index.ensures in
     let j : Joined = c.index-2.result.now in
@@ -116,7 +116,7 @@ pub index-requires-2 : goal.index-requires-2
 index-requires-2 c =
     let w = c.self.inside in
     let ks : List Joined = w.circuits.items in
-    let a = ends-here w.clients.items w.servers.items ks c.deref.result.now c.len.result c.len-2.result c.args.circuit c.in-Some.ends (omega (arith, c.len.ensures)) (omega (arith, c.len-2.ensures)) c.deref.ensures.value c.in-Some.ensures in
+    let a = ends-here w.clients.items w.servers.items ks c.deref.result.now c.deref-2.result.now c.deref-3.result.now c.args.circuit c.in-Some.ends c.deref.ensures.value c.deref-2.ensures.value c.deref-3.ensures.value c.in-Some.ensures in
     let within : c.args.circuit < length ks = At-within ks c.args.circuit a.j a.at in
     omega (arith, within)
 
@@ -130,7 +130,7 @@ returns c =
     let sl : List (List history.Entry) = entries_in w.server_logs.items in
     let e : Ends = c.in-Some.ends in
     let k : ℕ = c.args.circuit in
-    let a = ends-here cs ss ks c.deref.result.now c.len.result c.len-2.result k e (omega (arith, c.len.ensures)) (omega (arith, c.len-2.ensures)) c.deref.ensures.value c.in-Some.ensures in
+    let a = ends-here cs ss ks c.deref.result.now c.deref-2.result.now c.deref-3.result.now k e c.deref.ensures.value c.deref-2.ensures.value c.deref-3.ensures.value c.in-Some.ensures in
     let y : ServerSide = c.index_mut.result.now in
     let server : At ss e.server y = found ss e.server y y (ends-server (length cs) (length ss) ks k e a) c.index_mut.ensures.value in
     let on = is-open e.server_open c.if-not-ends.false in
@@ -150,7 +150,7 @@ invariant_of-self c =
     let sl : List (List history.Entry) = entries_in w.server_logs.items in
     let e : Ends = c.in-Some.ends in
     let k : ℕ = c.args.circuit in
-    let a = ends-here cs ss ks c.deref.result.now c.len.result c.len-2.result k e (omega (arith, c.len.ensures)) (omega (arith, c.len-2.ensures)) c.deref.ensures.value c.in-Some.ensures in
+    let a = ends-here cs ss ks c.deref.result.now c.deref-2.result.now c.deref-3.result.now k e c.deref.ensures.value c.deref-2.ensures.value c.deref-3.ensures.value c.in-Some.ensures in
     let y : ServerSide = c.index_mut.result.now in
     let server : At ss e.server y = found ss e.server y y (ends-server (length cs) (length ss) ks k e a) c.index_mut.ensures.value in
     let on = is-open e.server_open c.if-not-ends.false in

@@ -7,5 +7,4 @@ use Rattle.ca_world.proofs.world.World.step.Goals as goal
 
 pub returns-in-Some : goal.returns-in-Some
 returns-in-Some c =
-    subst (λ (e : Event). Steps c.args.self e c.after_tick.result) (sym (moment-is (event_of c.args.event.now) c.in-Some.moment (sym c.in-Some.ensures)))
-    (c.after_tick.ensures c.args.self c.in-Some.moment c.tick.ensures)
+    subst (λ (e : Event). Steps c.args.self e c.tick.result) (sym (moment-is (event_of c.args.event.now) c.in-Some.moment (sym c.in-Some.ensures))) c.tick.ensures

@@ -28,7 +28,7 @@ returns-in_default c =
     let cs : List ClientSide = w.clients.items in
     let ss : List ServerSide = w.servers.items in
     let ks : List Joined = w.circuits.items in
-    let none = no-ends-here cs ss ks c.deref.result.now c.len.result c.len-2.result c.args.circuit (omega (arith, c.len.ensures)) (omega (arith, c.len-2.ensures)) c.deref.ensures.value c.in_default.ensures in
+    let none = no-ends-here cs ss ks c.deref.result.now c.deref-2.result.now c.deref-3.result.now c.args.circuit c.deref.ensures.value c.deref-2.ensures.value c.deref-3.ensures.value c.in_default.ensures in
     subst (λ (v : World). (CanBe v (Up c.args.circuit c.args.n) → ⊥) × (v ≡ v)) c.self.view_is
     (up-none cs ss ks _ _ w.moment c.args.circuit c.args.n none, refl)
 
@@ -38,7 +38,7 @@ returns-then-not-ends c =
     let cs : List ClientSide = w.clients.items in
     let ss : List ServerSide = w.servers.items in
     let ks : List Joined = w.circuits.items in
-    let a = ends-here cs ss ks c.deref.result.now c.len.result c.len-2.result c.args.circuit c.in-Some.ends (omega (arith, c.len.ensures)) (omega (arith, c.len-2.ensures)) c.deref.ensures.value c.in-Some.ensures in
+    let a = ends-here cs ss ks c.deref.result.now c.deref-2.result.now c.deref-3.result.now c.args.circuit c.in-Some.ends c.deref.ensures.value c.deref-2.ensures.value c.deref-3.ensures.value c.in-Some.ensures in
     subst (λ (v : World). (CanBe v (Up c.args.circuit c.args.n) → ⊥) × (v ≡ v)) c.self.view_is
     (up-off cs ss ks _ _ w.moment c.args.circuit c.args.n c.in-Some.ends a (not-open c.in-Some.ends.server_open c.if-not-ends.true), refl)
 
@@ -50,7 +50,7 @@ hand_up-requires c =
     let ks : List Joined = w.circuits.items in
     let e : Ends = c.in-Some.ends in
     let k : ℕ = c.args.circuit in
-    let a = ends-here cs ss ks c.deref.result.now c.len.result c.len-2.result k e (omega (arith, c.len.ensures)) (omega (arith, c.len-2.ensures)) c.deref.ensures.value c.in-Some.ensures in
+    let a = ends-here cs ss ks c.deref.result.now c.deref-2.result.now c.deref-3.result.now k e c.deref.ensures.value c.deref-2.ensures.value c.deref-3.ensures.value c.in-Some.ensures in
     let y : ServerSide = c.index_mut-server.result.now in
     let server : At ss e.server y = found ss e.server y y (ends-server (length cs) (length ss) ks k e a) c.index_mut-server.ensures.value in
     subst (λ (z : Ends). IsServing y.core z.at_server) (sym a.is)
@@ -64,7 +64,7 @@ leave_up-requires c =
     let ks : List Joined = w.circuits.items in
     let e : Ends = c.in-Some.ends in
     let k : ℕ = c.args.circuit in
-    let a = ends-here cs ss ks c.deref.result.now c.len.result c.len-2.result k e (omega (arith, c.len.ensures)) (omega (arith, c.len-2.ensures)) c.deref.ensures.value c.in-Some.ensures in
+    let a = ends-here cs ss ks c.deref.result.now c.deref-2.result.now c.deref-3.result.now k e c.deref.ensures.value c.deref-2.ensures.value c.deref-3.ensures.value c.in-Some.ensures in
     let y : ServerSide = c.index_mut-server.result.now in
     let server : At ss e.server y = found ss e.server y y (ends-server (length cs) (length ss) ks k e a) c.index_mut-server.ensures.value in
     subst (λ (z : Ends). IsServing y.core z.at_server) (sym a.is)
@@ -81,7 +81,7 @@ returns-then-ends c =
     let e : Ends = c.in-Some.ends in
     let k : ℕ = c.args.circuit in
     let n : ℕ = c.args.n in
-    let a = ends-here cs ss ks c.deref.result.now c.len.result c.len-2.result k e (omega (arith, c.len.ensures)) (omega (arith, c.len-2.ensures)) c.deref.ensures.value c.in-Some.ensures in
+    let a = ends-here cs ss ks c.deref.result.now c.deref-2.result.now c.deref-3.result.now k e c.deref.ensures.value c.deref-2.ensures.value c.deref-3.ensures.value c.in-Some.ensures in
     let y : ServerSide = c.index_mut-server.result.now in
     let server : At ss e.server y = found ss e.server y y (ends-server (length cs) (length ss) ks k e a) c.index_mut-server.ensures.value in
     let x : ClientSide = c.index_mut-side.result.now in
@@ -94,7 +94,7 @@ pub index_mut-requires : goal.index_mut-requires
 index_mut-requires c =
     let w = c.self.inside in
     let ks : List Joined = w.circuits.items in
-    let a = ends-here w.clients.items w.servers.items ks c.deref.result.now c.len.result c.len-2.result c.args.circuit c.in-Some.ends (omega (arith, c.len.ensures)) (omega (arith, c.len-2.ensures)) c.deref.ensures.value c.in-Some.ensures in
+    let a = ends-here w.clients.items w.servers.items ks c.deref.result.now c.deref-2.result.now c.deref-3.result.now c.args.circuit c.in-Some.ends c.deref.ensures.value c.deref-2.ensures.value c.deref-3.ensures.value c.in-Some.ensures in
     let within : c.args.circuit < length ks = At-within ks c.args.circuit a.j a.at in
     omega (arith, within)
 
@@ -109,7 +109,7 @@ returns c =
     let e : Ends = c.in-Some.ends in
     let k : ℕ = c.args.circuit in
     let n : ℕ = c.args.n in
-    let a = ends-here cs ss ks c.deref.result.now c.len.result c.len-2.result k e (omega (arith, c.len.ensures)) (omega (arith, c.len-2.ensures)) c.deref.ensures.value c.in-Some.ensures in
+    let a = ends-here cs ss ks c.deref.result.now c.deref-2.result.now c.deref-3.result.now k e c.deref.ensures.value c.deref-2.ensures.value c.deref-3.ensures.value c.in-Some.ensures in
     let y : ServerSide = c.index_mut-server.result.now in
     let server : At ss e.server y = found ss e.server y y (ends-server (length cs) (length ss) ks k e a) c.index_mut-server.ensures.value in
     let j : Joined = c.index_mut.result.now in
@@ -130,7 +130,7 @@ invariant_of-self c =
     let e : Ends = c.in-Some.ends in
     let k : ℕ = c.args.circuit in
     let n : ℕ = c.args.n in
-    let a = ends-here cs ss ks c.deref.result.now c.len.result c.len-2.result k e (omega (arith, c.len.ensures)) (omega (arith, c.len-2.ensures)) c.deref.ensures.value c.in-Some.ensures in
+    let a = ends-here cs ss ks c.deref.result.now c.deref-2.result.now c.deref-3.result.now k e c.deref.ensures.value c.deref-2.ensures.value c.deref-3.ensures.value c.in-Some.ensures in
     let y : ServerSide = c.index_mut-server.result.now in
     let server : At ss e.server y = found ss e.server y y (ends-server (length cs) (length ss) ks k e a) c.index_mut-server.ensures.value in
     let x : ClientSide = c.index_mut-side.result.now in
@@ -156,7 +156,7 @@ invariant_of-self-2 c =
     let e : Ends = c.in-Some.ends in
     let k : ℕ = c.args.circuit in
     let n : ℕ = c.args.n in
-    let a = ends-here cs ss ks c.deref.result.now c.len.result c.len-2.result k e (omega (arith, c.len.ensures)) (omega (arith, c.len-2.ensures)) c.deref.ensures.value c.in-Some.ensures in
+    let a = ends-here cs ss ks c.deref.result.now c.deref-2.result.now c.deref-3.result.now k e c.deref.ensures.value c.deref-2.ensures.value c.deref-3.ensures.value c.in-Some.ensures in
     let y : ServerSide = c.index_mut-server.result.now in
     let server : At ss e.server y = found ss e.server y y (ends-server (length cs) (length ss) ks k e a) c.index_mut-server.ensures.value in
     let j : Joined = c.index_mut.result.now in

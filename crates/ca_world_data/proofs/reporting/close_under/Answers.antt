@@ -8,8 +8,8 @@ use Rattle.ca_world_data.specs.declared.joined.Joined.{Joined}
 use Rattle.ca_world_data.specs.Reporting.{IsServed, IsUnserved}
 use Rattle.ca_world_data.specs.Seen.{joined_of}
 use Rattle.ca_world_data.proofs.Worlds.{found, set-map}
-use Rattle.ca_world_servers.proofs.Closings.{closed-none, closed-one}
-use Rattle.ca_world_servers.proofs.ends_with.close_under.Goals as goal
+use Rattle.ca_world_data.proofs.EndsUnder.{closed-none, closed-one}
+use Rattle.ca_world_data.proofs.reporting.close_under.Goals as goal
 
 pub returns-in_default : goal.returns-in_default
 returns-in_default c =

@@ -1,6 +1,7 @@
 -- Working: the end of a circuit that a step of a server's core closed is reported, together with
 -- those that ended beside it.
-use Rattle.std.specs.Prelude.{ℕ, ◌≡◌, ◌==◌, ◌&&◌, Bool, List, [], Option, Some, if◌then◌else◌, map}
+use Rattle.std.specs.Prelude.{ℕ, ◌≡◌, ◌==◌, ◌&&◌, Bool, List, [], Option, Some, None, if◌then◌else◌}
+use Rattle.std.specs.Prelude.{map}
 use Rattle.ca_arena.specs.declared.handle.Handle.{Handle}
 use Rattle.ca_ids.specs.Table.{same_handle}
 use Rattle.ca_model.specs.History.{Entry}
@@ -9,6 +10,7 @@ use Rattle.ca_model.specs.ServerEvents.{ending, ends_at, ends_by, reported, serv
 use Rattle.ca_model.specs.ServerEvents.{withdrawals, without_puts}
 use Rattle.ca_model.specs.World.{Joined, grown}
 use Rattle.ca_world_data.specs.declared.server.ServerSide.{ServerSide}
+use Rattle.ca_world_data.specs.Reporting.{gone_at}
 use Rattle.ca_world_data.specs.Seen.{record_of, server_of}
 
 -- The circuit that is open at server i under this handle ends with these bytes left, and others as
@@ -18,9 +20,10 @@ ends_under h left i core c =
     if same_handle c.at_server h && (c.server == i && c.lists.server_open) then Some left
     else ends_by i core c
 
--- the circuits that end so: what they leave plays no part
-abbrev pub gone_with : Handle → (i : ℕ) → Server → List Joined → ℕ → Bool
-gone_with h i core ks = ends_at (ends_under h [] i core) ks
+-- the circuits that end so, or without a handle as the core says: what they leave plays no part
+abbrev pub gone_with : Option Handle → (i : ℕ) → Server → List Joined → ℕ → Bool
+gone_with (Some h) i core ks = ends_at (ends_under h [] i core) ks
+gone_with None i core ks = gone_at i core ks
 
 -- a circuit, which ends with these bytes left if it is that of the handle
 abbrev pub closed_under : Handle → List ℕ → (i : ℕ) → Joined → Joined
