@@ -173,9 +173,3 @@ HaveReceived old from ms ds new =
     (x : Client) → parts_of x ≡ old
     → (e : Effect) × ReceivesAll from x ms e × (e.notices ≡ [])
     × (e.core ≡ all_settled ds (with_parts new x))
-
--- They had; or there was no memory for one, and nothing is changed.
-abbrev pub ReceivesAllIn : Parts → Address → List Fields → Result (Vec Received Global) AllocError
-    → Parts → Type 0
-ReceivesAllIn old from ms (Ok ds) new = HaveReceived old from ms ds.items new
-ReceivesAllIn old from ms (Err _) new = (ms ≢ []) × (new ≡ old)

@@ -27,10 +27,10 @@ pub struct Noted {
     pub sent: Vec<Creation>,
 }
 
-/// The messages of a datagram from this address were received, one after another, as by
-/// `receive_all`, and what they sent was noted. Only a message takes memory. Without
-/// memory nothing changes.
-pub fn receive_all_noting(
+/// The messages of a datagram from this address were received, one after another, and what they
+/// sent was noted; the searches are still to follow. Only a message takes memory. Without memory
+/// nothing changes.
+pub fn receive_all(
     alloc: Global,
     channels: &mut Channels,
     circuits: &mut HeldTable<ClientCircuit>,
