@@ -26,7 +26,6 @@ mod Sendings
 mod Aside
 mod Moments
 mod Ahead
-mod Asked
 mod Marked
 mod Passing
 mod Quieted

@@ -3,13 +3,12 @@ ghost use Rattle.std.specs.Prelude.{◌≡◌, ◌≢◌, ◌<◌, ◌≤◌, �
 ghost use Rattle.ca_text.specs.Limits.{priority_limit};
 ghost use Rattle.ca_arena.specs.Arena.{place_at};
 ghost use Rattle.ca_ids.specs.Table.{held, held_at};
-ghost use Rattle.ca_model.specs.ClientEnds as answer;
 ghost use Rattle.ca_client_core.specs.ForAccepts.{connecting_sent, creations_among};
 ghost use Rattle.ca_client_core.specs.ForAccepts.{creations_of_one, greeting_sent, wanted_in_place};
 ghost use Rattle.ca_client_core.specs.ForHistories.{sending_of};
 
 use crate::client::ClientCore;
-use crate::for_histories::{Aim, Sending};
+use crate::for_histories::{Aim, Sending, of_circuit};
 use ca_arena::Handle;
 use ca_client_tables::{Channels, WantedCircuit};
 use ca_text::{Command, PAYLOAD_LIMIT};
@@ -86,17 +85,6 @@ fn list_set_up(
     sent.push(of_circuit(circuit, client_name))?;
     sent.push(of_circuit(circuit, host_name))?;
     Ok(())
-}
-
-// A message of the circuit as a whole.
-fn of_circuit(circuit: Handle, message: Message) -> Sending
-    ensures { sending_of result ≡ answer.of_circuit circuit message }
-{
-    Sending {
-        circuit,
-        message,
-        aim: Aim::OfCircuit,
-    }
 }
 
 // Puts the CREATE_CHAN of each channel that waits for this circuit after what is

@@ -1,6 +1,8 @@
 //! Calls for a recorder of histories. No client needs them.
 ghost use Rattle.std.specs.Prelude.{◌≡◌};
+ghost use Rattle.ca_model.specs.ClientEnds.{of_circuit};
 ghost use Rattle.ca_client_core.specs.ForHistories.{AsksFor, AsksWide, LivesOn, TellsNext, flow_at};
+ghost use Rattle.ca_client_core.specs.ForHistories.{sending_of};
 
 use crate::client::ClientCore;
 use ca_arena::Handle;
@@ -28,6 +30,17 @@ pub struct Sending {
     pub circuit: Handle,
     pub message: Message,
     pub aim: Aim,
+}
+
+// A message of the circuit as a whole.
+pub(crate) fn of_circuit(circuit: Handle, message: Message) -> Sending
+    ensures { sending_of result ≡ of_circuit circuit message }
+{
+    Sending {
+        circuit,
+        message,
+        aim: Aim::OfCircuit,
+    }
 }
 
 /// Where a channel is live: on this circuit, under this SID, with n elements at most.
