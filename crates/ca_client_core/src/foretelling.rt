@@ -1,5 +1,6 @@
 //! What the next message of a circuit will make a client send, told before it is read.
 ghost use Rattle.std.specs.Prelude.{◌≡◌, ◌≢◌, ◌∷◌, [], IfOk, OnErr, map};
+ghost use Rattle.ca_requests.specs.Meaning.{message_of};
 ghost use Rattle.ca_model.specs.Client.{channel_on};
 ghost use Rattle.ca_model.specs.ClientCalls.{clear_sent, event_add_sent};
 ghost use Rattle.ca_model.specs.Hears.{created, event_adds, left};
@@ -9,11 +10,11 @@ ghost use Rattle.ca_client_core.specs.Foretelling.{adds_sent, foretold, found_se
 use crate::client::ClientCore;
 use crate::for_histories::{Aim, Sending};
 use ca_arena::Handle;
-use ca_client_tables::{Address, Creation, Phase, creation_by};
+use ca_client_tables::{Address, Creation, First, Phase, creation_by};
 use ca_ids::WireId;
 use ca_monitor::Subscription;
 use ca_text::Command;
-use ca_wire::{Cid, Ioid, Message, Sid, Wanted, clear_request, event_add_request};
+use ca_wire::{Cid, Header, Ioid, Sid, Wanted, clear_request, event_add_request};
 use std::alloc::{AllocError, Global};
 
 impl ClientCore {
@@ -25,42 +26,41 @@ impl ClientCore {
         let Some(found) = self.circuits.by_handle(circuit) else {
             return Ok(Vec::new(self.alloc));
         };
-        let Some(head) = found.first_head(self.alloc) else {
+        let First::Message(head) = found.first() else {
             return Ok(Vec::new(self.alloc));
         };
-        self.sent_by(circuit, found.address, &head)
+        self.sent_by(circuit, found.address, &head.header)
     }
 
-    // What this message makes the client send, on a circuit to this address. Its
+    // What a message with this header makes the client send, on a circuit to this address. Its
     // payload plays no part.
     fn sent_by(
         &self,
         circuit: Handle,
         from: Address,
-        head: &Message,
+        header: &Header,
     ) -> Result<Vec<Sending>, AllocError>
         ensures ok { IfOk result (λ sent. map sending_of sent.items
-            ≡ foretold self.now circuit from head.now) }
-        ensures some { OnErr result (foretold self.now circuit from head.now ≢ []) }
+            ≡ foretold self.now circuit from (message_of header.now [])) }
+        ensures some { OnErr result (foretold self.now circuit from (message_of header.now []) ≢ []) }
     {
-        let command = head.command();
-        if command == Command::Search.number() {
-            return self.sent_by_found(from, head);
+        if header.command == Command::Search.number() {
+            return self.sent_by_found(from, header);
         }
-        if command == Command::CreateChannel.number() {
-            return self.sent_by_created(circuit, head);
+        if header.command == Command::CreateChannel.number() {
+            return self.sent_by_created(circuit, header);
         }
-        if command == Command::ServerDisconnect.number() {
-            return self.sent_by_left(circuit, head);
+        if header.command == Command::ServerDisconnect.number() {
+            return self.sent_by_left(circuit, header);
         }
         Ok(Vec::new(self.alloc))
     }
 
     // SEARCH: a channel that was found is created, if the circuit to its server is connected.
-    fn sent_by_found(&self, from: Address, reply: &Message) -> Result<Vec<Sending>, AllocError>
+    fn sent_by_found(&self, from: Address, reply: &Header) -> Result<Vec<Sending>, AllocError>
         ensures ok { IfOk result (λ sent. map sending_of sent.items
-            ≡ found_sent self.now from reply.now) }
-        ensures some { OnErr result (found_sent self.now from reply.now ≢ []) }
+            ≡ found_sent self.now from (message_of reply.now [])) }
+        ensures some { OnErr result (found_sent self.now from (message_of reply.now []) ≢ []) }
     {
         let found = creation_by(self.alloc, &self.channels, &self.circuits, &[], from, reply)?;
         let Some(creation) = found else {
@@ -84,42 +84,42 @@ impl ClientCore {
 
     // CREATE_CHAN: a channel that is live is subscribed to again; one that its caller cleared
     // meanwhile is cleared now.
-    fn sent_by_created(&self, circuit: Handle, reply: &Message) -> Result<Vec<Sending>, AllocError>
+    fn sent_by_created(&self, circuit: Handle, reply: &Header) -> Result<Vec<Sending>, AllocError>
         ensures ok { IfOk result (λ sent. map sending_of sent.items
             ≡ (created
             self.now
             circuit
-            reply.now
+            (message_of reply.now [])
             (channel_on self.now circuit reply.now.p1)).sent) }
         ensures some { OnErr result ((created
             self.now
             circuit
-            reply.now
+            (message_of reply.now [])
             (channel_on self.now circuit reply.now.p1)).sent ≢ []) }
     {
-        let Some((channel, phase)) = self.channel_on(circuit, reply.p1()) else {
+        let Some((channel, phase)) = self.channel_on(circuit, reply.p1) else {
             return Ok(Vec::new(self.alloc));
         };
         match phase {
             Phase::Connecting => Ok(Vec::new(self.alloc)),
-            Phase::Creating(_) => self.adds_of(circuit, reply.p2(), channel),
+            Phase::Creating(_) => self.adds_of(circuit, reply.p2, channel),
             Phase::Live(_, _) => Ok(Vec::new(self.alloc)),
             Phase::Leaving => Ok(Vec::new(self.alloc)),
             Phase::Clearing => Ok(Vec::new(self.alloc)),
-            Phase::Doomed => clear_of(self.alloc, circuit, reply.p2(), channel),
+            Phase::Doomed => clear_of(self.alloc, circuit, reply.p2, channel),
         }
     }
 
     // SERVER_DISCONN: a live channel is cleared.
-    fn sent_by_left(&self, circuit: Handle, message: &Message) -> Result<Vec<Sending>, AllocError>
+    fn sent_by_left(&self, circuit: Handle, header: &Header) -> Result<Vec<Sending>, AllocError>
         ensures ok { IfOk result (λ sent. map sending_of sent.items
-            ≡ (left self.now circuit (channel_on self.now circuit message.now.p1)).sent) }
+            ≡ (left self.now circuit (channel_on self.now circuit header.now.p1)).sent) }
         ensures some { OnErr result ((left
             self.now
             circuit
-            (channel_on self.now circuit message.now.p1)).sent ≢ []) }
+            (channel_on self.now circuit header.now.p1)).sent ≢ []) }
     {
-        let Some((channel, phase)) = self.channel_on(circuit, message.p1()) else {
+        let Some((channel, phase)) = self.channel_on(circuit, header.p1) else {
             return Ok(Vec::new(self.alloc));
         };
         match phase {

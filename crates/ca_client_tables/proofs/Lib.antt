@@ -15,7 +15,6 @@ pub mod Sifting
 pub mod Values
 pub mod Dues
 pub mod Firsts
-pub mod Foretold
 pub mod Noticed
 pub mod OnLists
 mod Opened

@@ -51,7 +51,7 @@ pub use ends::Address;
 pub use finding::{find, pause_found};
 pub use first::First;
 pub use foreseeing::find_after;
-pub use foretelling::{Creation, creation_by, with_header};
+pub use foretelling::{Creation, creation_by};
 pub use letting_go::let_go;
 pub use live_channels::{LiveChannels, list_live, note_live, take_live};
 pub use noting::{Noted, receive_all};

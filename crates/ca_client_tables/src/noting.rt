@@ -147,7 +147,8 @@ fn sent_by(
         ≡ creation_in channels.now (with_all_held opening.now circuits.now) from message.now) }
 {
     if message.command() == Command::Search.number() {
-        return creation_by(alloc, channels, circuits, opening, from, message);
+        let reply = message.header();
+        return creation_by(alloc, channels, circuits, opening, from, &reply);
     }
     Ok(None)
 }

@@ -65,7 +65,8 @@ pub(crate) fn receive(
 {
     let command = message.command();
     if command == Command::Search.number() {
-        return match find_one(alloc, channels, circuits, opening, order, from, message) {
+        let reply = message.header();
+        return match find_one(alloc, channels, circuits, opening, order, from, &reply) {
             Ok(Some(found)) => Ok(Received::Found(found)),
             Ok(None) => Ok(Received::Nothing),
             Err(refused) => Err(refused),
