@@ -246,10 +246,12 @@ pub(crate) fn serve(
     told: &mut Vec<ListenerNotices>,
 ) -> Brought {
     let mut brought = Brought::nothing();
-    for turn in 0..links.len() {
-        // From the last to the first, so that one that ends can be taken out.
-        let index = links.len().saturating_sub(turn + 1);
-        match serve_at(state, links, index, told) {
+    // From the last to the first, so that one that ends can be taken out.
+    for index in (0..links.len()).rev() {
+        let Some(link) = links.get_mut(index) else {
+            continue;
+        };
+        match serve_one(state, link, told) {
             Served::On(one) => brought = brought.and(one),
             Served::Over => {
                 forget_at(links, index);
@@ -278,9 +280,11 @@ pub(crate) fn send_all(
     told: &mut Vec<ListenerNotices>,
 ) -> bool {
     let mut all = true;
-    for turn in 0..links.len() {
-        let index = links.len().saturating_sub(turn + 1);
-        match send_at(state, links, index, told) {
+    for index in (0..links.len()).rev() {
+        let Some(link) = links.get_mut(index) else {
+            continue;
+        };
+        match send_one(state, link, told) {
             Served::On(one) => all = all && !one.more,
             Served::Over => {
                 forget_at(links, index);
@@ -307,30 +311,6 @@ impl Served {
             more: true,
             news: false,
         })
-    }
-}
-
-fn serve_at(
-    state: &mut ClientState,
-    links: &mut Vec<ConnectedCircuit>,
-    index: usize,
-    told: &mut Vec<ListenerNotices>,
-) -> Served {
-    match links.get_mut(index) {
-        Some(link) => serve_one(state, link, told),
-        None => Served::On(Brought::nothing()),
-    }
-}
-
-fn send_at(
-    state: &mut ClientState,
-    links: &mut Vec<ConnectedCircuit>,
-    index: usize,
-    told: &mut Vec<ListenerNotices>,
-) -> Served {
-    match links.get_mut(index) {
-        Some(link) => send_one(state, link, told),
-        None => Served::On(Brought::nothing()),
     }
 }
 

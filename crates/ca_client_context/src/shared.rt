@@ -282,8 +282,7 @@ impl<L: Listener> SharedClient<L> {
 
     // Waits for the sockets, for this time or a turn at most.
     pub(crate) fn watch<R: Wait + Clock>(&self, rt: &R, most: Duration) {
-        let mut guard = self.sockets.lock(rt);
-        guard.watch(rt, most);
+        self.sockets.lock(rt).watch(rt, most);
     }
 
     // Takes the lock for a caller that leads, if this one may: no other waits, or did lately, and
@@ -323,8 +322,7 @@ impl<L: Listener> SharedClient<L> {
     pub(crate) fn tick(&self) {
         let crowded = self.crowded.load(Ordering::SeqCst);
         if crowded != 0 {
-            self.crowded
-                .store(crowded.saturating_sub(1), Ordering::SeqCst);
+            self.crowded.store(crowded - 1, Ordering::SeqCst);
         }
     }
 
@@ -386,10 +384,7 @@ impl<L: Listener> SharedClient<L> {
     // left for the thread of input and output.
     fn send_now(&self) -> bool {
         match self.locked.try_lock() {
-            Some(guard) => {
-                let mut guard = guard;
-                guard.send()
-            }
+            Some(mut guard) => guard.send(),
             None => false,
         }
     }
@@ -415,21 +410,18 @@ impl<L: Listener> SharedClient<L> {
     // Moves bytes for a caller that does not wait, if it can have the lock at once, and may. It
     // says whether it did.
     fn move_now(&self) -> bool {
-        match self.locked.try_lock() {
-            Some(guard) => {
-                let mut guard = guard;
-                if !guard.may_lead() {
-                    return false;
-                }
-                self.asked.store(0, Ordering::SeqCst);
-                let brought = guard.move_all();
-                let calls = guard.calls(brought);
-                drop(guard);
-                self.leave(calls);
-                true
-            }
-            None => false,
+        let Some(mut guard) = self.locked.try_lock() else {
+            return false;
+        };
+        if !guard.may_lead() {
+            return false;
         }
+        self.asked.store(0, Ordering::SeqCst);
+        let brought = guard.move_all();
+        let calls = guard.calls(brought);
+        drop(guard);
+        self.leave(calls);
+        true
     }
 
     // Ends its wait, once for all that was changed under the lock meanwhile.
