@@ -1,6 +1,7 @@
 //! A circuit whose socket is in memory.
+use crate::state::tape::Tape;
 use ca_arena::Handle;
-use ca_client::{ClientState, CoreCall, Tape, step_under_lock, turn_over};
+use ca_client::{ClientState, CoreCall, step_under_lock, turn_over};
 use ca_client_core::Address;
 use ca_text::Refusal;
 use std::alloc::Global;
