@@ -127,7 +127,8 @@ impl Tries {
     }
 }
 
-// Connects the circuits that are wanted. One that cannot be is cut.
+// Connects the circuits that are wanted. One that cannot be is cut, and if it is gone then the next
+// one waits for the next turn.
 pub(crate) fn connect<R: Net>(
     rt: &R,
     state: &mut ClientState,
@@ -136,18 +137,18 @@ pub(crate) fn connect<R: Net>(
     tries: &mut Tries,
     now: u64,
 ) {
-    let Ok(wanted) = state.core().wanted() else {
-        return;
-    };
-    for index in 0..wanted.len() {
-        let circuit = wanted[index].circuit;
+    for place in 0..state.core().circuits_listed() {
+        let Some(wanted) = state.core().wanted_at(place) else {
+            continue;
+        };
+        let circuit = wanted.circuit;
         if !tries.is_due(circuit, now) {
             continue;
         }
         if links.reserve(1).is_err() || tries.note(circuit, now).is_err() {
             return;
         }
-        match reach(rt, registry, wanted[index]) {
+        match reach(rt, registry, wanted) {
             Some(link) => {
                 if let Answer::Connected = step_under_lock(state, CoreCall::Connect(circuit)) {
                     links.push_reserved(link);

@@ -34,5 +34,6 @@ mod Prepared
 mod Rounds
 mod Alone
 mod Awaited
+mod InPlace
 mod Tried
 mod Foretold

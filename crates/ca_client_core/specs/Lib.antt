@@ -20,6 +20,7 @@ pub mod Silences
 pub mod Quiet
 pub mod Replying
 pub mod Ticked
+pub mod Wanted
 pub mod ForAccepts
 pub mod ForDatagrams
 pub mod Foretold

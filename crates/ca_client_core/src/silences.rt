@@ -19,13 +19,6 @@ use ca_wire::header_only;
 use std::alloc::AllocError;
 
 impl ClientCore {
-    // How many circuits are wanted or connected.
-    pub(crate) fn circuits_listed(&self) -> usize
-        ensures { result ≡ length self.now.order }
-    {
-        self.order.len()
-    }
-
     // The circuit at this place of their order.
     pub(crate) fn listed_at(&self, index: usize) -> Handle
         requires { index < length self.now.order }

@@ -1,5 +1,4 @@
 pub mod Circuits
-pub mod Wanting
 pub mod Beginnings
 pub mod Ended
 pub mod Queued

@@ -58,5 +58,5 @@ pub use noting::{Noted, receive_all};
 pub use packing::packed;
 pub use receiving::{Received, settle};
 pub use valued::size_of;
-pub use wanted::{WantedCircuit, wanted_in};
+pub use wanted::WantedCircuit;
 pub use why::Why;

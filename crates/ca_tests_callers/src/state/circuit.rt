@@ -53,8 +53,7 @@ pub(crate) fn live(state: &mut ClientState, tape: &mut Tape) -> Result<Handle, R
 
 /// The first circuit that is wanted.
 fn wanted(state: &ClientState) -> Result<Handle, Refusal> {
-    let wanted = state.core().wanted()?;
-    match wanted.first() {
+    match state.core().wanted(0) {
         Some(first) => Ok(first.circuit),
         None => Err(Refusal::NotLive),
     }

@@ -124,12 +124,7 @@ impl Course {
     }
 
     fn connected(&mut self) -> Result<Option<Handle>, Refusal> {
-        let wanted = twice(
-            &mut self.state,
-            &mut self.refused,
-            |state| Ok(state.core().wanted()?),
-        )?;
-        let Some(first) = wanted.first() else {
+        let Some(first) = self.state.core().wanted(0) else {
             return Err(Refusal::BadEvent);
         };
         let circuit = first.circuit;
