@@ -1,9 +1,8 @@
 //! What was sent on a circuit is taken back.
 ghost use Rattle.std.specs.Prelude.{◌≡◌};
-ghost use Rattle.ca_link.specs.Link.{mark_of};
-ghost use Rattle.ca_client_tables.specs.Marks.{end_restored, in_restored, mark_in};
+ghost use Rattle.ca_client_tables.specs.Marks.{in_restored, mark_in};
 
-use crate::circuit::{ClientCircuit, Connection};
+use crate::circuit::ClientCircuit;
 use ca_link::Mark;
 
 impl ClientCircuit {
@@ -12,7 +11,7 @@ impl ClientCircuit {
         ensures { result ≡ mark_in self.now }
     {
         match &self.connection {
-            Some(connection) => connection.mark(),
+            Some(connection) => connection.link.mark(),
             None => Mark {
                 waiting: 0,
                 echoed: false,
@@ -25,23 +24,7 @@ impl ClientCircuit {
         ensures { self.new ≡ in_restored mark self.old }
     {
         if let Some(connection) = &mut self.connection {
-            connection.restore(mark);
+            connection.link.restore(mark);
         }
-    }
-}
-
-impl Connection {
-    // How it is.
-    fn mark(&self) -> Mark
-        ensures { result ≡ mark_of self.now.link }
-    {
-        self.link.mark()
-    }
-
-    // It is as it was at this mark.
-    fn restore(&mut self, mark: Mark)
-        ensures { self.new ≡ end_restored mark self.old }
-    {
-        self.link.restore(mark);
     }
 }
