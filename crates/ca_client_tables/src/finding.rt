@@ -9,8 +9,8 @@ ghost use Rattle.ca_search.specs.Searches.{paused};
 ghost use Rattle.ca_requests.specs.Meaning.{message_of};
 ghost use Rattle.ca_model.specs.Hears.{found_at, is_searched};
 ghost use Rattle.ca_client_tables.specs.Finding.{CreatesIn, FindsIn, FindsOne, WantsNew};
-ghost use Rattle.ca_client_tables.specs.Finding.{circuit_in, first_to, goes_to, searched_in};
-ghost use Rattle.ca_client_tables.specs.Finding.{undone, unopened};
+ghost use Rattle.ca_client_tables.specs.Finding.{circuit_in, first_to, goes_to, halfway};
+ghost use Rattle.ca_client_tables.specs.Finding.{searched_in, tables, undone, unopened};
 ghost use Rattle.ca_client_tables.specs.Opening.{AreOpening};
 
 use crate::beginning::is_same;
@@ -64,11 +64,11 @@ pub fn find(
     reply: &Header,
 ) -> Result<Option<Handle>, AllocError>
     ensures { FindsIn
-        (record { channels = channels.old; circuits = circuits.old; order = order.old.items })
+        (tables channels.old circuits.old order.old.items)
         from
         (message_of reply.now [])
         result
-        (record { channels = channels.new; circuits = circuits.new; order = order.new.items }) }
+        (tables channels.new circuits.new order.new.items) }
 {
     let mut opening = Vec::new(alloc);
     let found = find_one(
@@ -100,16 +100,9 @@ fn lose_found(
     order: &mut Vec<Handle>,
     found: Option<Found>,
 )
-    ensures { (record {
-      channels = channels.new;
-      circuits = circuits.new;
-      order = order.new.items;
-    }) ≡ unopened (undone found (record {
-      channels = channels.old;
-      circuits = circuits.old;
-      opening = opening.items;
-      order = order.old.items;
-    })) }
+    ensures { tables channels.new circuits.new order.new.items
+        ≡ unopened (undone found
+        (halfway channels.old circuits.old opening.items order.old.items)) }
 {
     if let Some(found) = found {
         lose(channels, circuits, &mut opening, order, found);
@@ -129,21 +122,11 @@ pub(crate) fn find_one(
 ) -> Result<Option<Found>, AllocError>
     requires { AreOpening opening.old.items circuits.old }
     ensures finds { FindsOne
-        (record {
-          channels = channels.old;
-          circuits = circuits.old;
-          opening = opening.old.items;
-          order = order.old.items;
-        })
+        (halfway channels.old circuits.old opening.old.items order.old.items)
         from
         (message_of reply.now [])
         result
-        (record {
-          channels = channels.new;
-          circuits = circuits.new;
-          opening = opening.new.items;
-          order = order.new.items;
-        }) }
+        (halfway channels.new circuits.new opening.new.items order.new.items) }
     ensures opening { AreOpening opening.new.items circuits.new }
 {
     let Some((channel, found)) = searched_by(channels, reply.p2) else {
@@ -194,22 +177,12 @@ fn want_new(
 ) -> Result<Option<Found>, AllocError>
     requires { priority ≤ priority_limit }
     ensures { WantsNew
-        (record {
-          channels = channels.old;
-          circuits = circuits.now;
-          opening = opening.old.items;
-          order = order.old.items;
-        })
+        (halfway channels.old circuits.now opening.old.items order.old.items)
         address
         priority
         channel
         result
-        (record {
-          channels = channels.new;
-          circuits = circuits.now;
-          opening = opening.new.items;
-          order = order.new.items;
-        }) }
+        (halfway channels.new circuits.now opening.new.items order.new.items) }
 {
     let Ok(vacant) = circuits.vacant_after(opening) else {
         return Err(AllocError);

@@ -2,8 +2,8 @@
 ghost use Rattle.std.specs.Prelude.{◌≡◌, ℕ};
 ghost use Rattle.ca_text.specs.declared.command.Command.TheVariants as command;
 ghost use Rattle.ca_client_tables.specs.Opening.{AreOpening};
-ghost use Rattle.ca_client_tables.specs.Receiving.{HearsIn, ReceivesIn};
-ghost use Rattle.ca_client_tables.specs.Receiving.{all_settled_in, boosted_if, settled_in};
+ghost use Rattle.ca_client_tables.specs.Receiving.{HearsIn, ReceivesIn, all_settled_in};
+ghost use Rattle.ca_client_tables.specs.Receiving.{boosted_if, half_parts, settled_in};
 
 use crate::beacons::{Beacon, beacon_port, hear_beacon};
 use crate::channels::Channels;
@@ -44,23 +44,11 @@ pub(crate) fn receive(
 ) -> Result<Received, AllocError>
     requires { AreOpening opening.old.items circuits.old }
     ensures receives { ReceivesIn
-        (record {
-          channels = channels.old;
-          circuits = circuits.old;
-          opening = opening.old.items;
-          order = order.old.items;
-          beacons = beacons.old;
-        })
+        (half_parts channels.old circuits.old opening.old.items order.old.items beacons.old)
         from
         message.now
         result
-        (record {
-          channels = channels.new;
-          circuits = circuits.new;
-          opening = opening.new.items;
-          order = order.new.items;
-          beacons = beacons.new;
-        }) }
+        (half_parts channels.new circuits.new opening.new.items order.new.items beacons.new) }
     ensures opening { AreOpening opening.new.items circuits.new }
 {
     let command = message.command();
