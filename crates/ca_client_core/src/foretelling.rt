@@ -1,11 +1,11 @@
 //! What the next message of a circuit will make a client send, told before it is read.
 ghost use Rattle.std.specs.Prelude.{◌≡◌, ◌≢◌, ◌∷◌, [], IfOk, OnErr, map};
 ghost use Rattle.ca_requests.specs.Meaning.{message_of};
-ghost use Rattle.ca_model.specs.Client.{channel_on};
 ghost use Rattle.ca_model.specs.ClientCalls.{clear_sent, event_add_sent};
-ghost use Rattle.ca_model.specs.Hears.{created, event_adds, left};
+ghost use Rattle.ca_model.specs.Hears.{event_adds};
 ghost use Rattle.ca_client_core.specs.ForHistories.{TellsNext, sending_of};
 ghost use Rattle.ca_client_core.specs.Foretelling.{adds_sent, foretold, found_sent};
+ghost use Rattle.ca_client_core.specs.Hearing.{created_by, left_by};
 
 use crate::client::ClientCore;
 use crate::for_histories::{Aim, Sending};
@@ -86,16 +86,8 @@ impl ClientCore {
     // meanwhile is cleared now.
     fn sent_by_created(&self, circuit: Handle, reply: &Header) -> Result<Vec<Sending>, AllocError>
         ensures ok { IfOk result (λ sent. map sending_of sent.items
-            ≡ (created
-            self.now
-            circuit
-            (message_of reply.now [])
-            (channel_on self.now circuit reply.now.p1)).sent) }
-        ensures some { OnErr result ((created
-            self.now
-            circuit
-            (message_of reply.now [])
-            (channel_on self.now circuit reply.now.p1)).sent ≢ []) }
+            ≡ (created_by self.now circuit reply.now).sent) }
+        ensures some { OnErr result ((created_by self.now circuit reply.now).sent ≢ []) }
     {
         let Some((channel, phase)) = self.channel_on(circuit, reply.p1) else {
             return Ok(Vec::new(self.alloc));
@@ -113,11 +105,8 @@ impl ClientCore {
     // SERVER_DISCONN: a live channel is cleared.
     fn sent_by_left(&self, circuit: Handle, header: &Header) -> Result<Vec<Sending>, AllocError>
         ensures ok { IfOk result (λ sent. map sending_of sent.items
-            ≡ (left self.now circuit (channel_on self.now circuit header.now.p1)).sent) }
-        ensures some { OnErr result ((left
-            self.now
-            circuit
-            (channel_on self.now circuit header.now.p1)).sent ≢ []) }
+            ≡ (left_by self.now circuit header.now).sent) }
+        ensures some { OnErr result ((left_by self.now circuit header.now).sent ≢ []) }
     {
         let Some((channel, phase)) = self.channel_on(circuit, header.p1) else {
             return Ok(Vec::new(self.alloc));
