@@ -46,7 +46,7 @@ pub use channels::{Channels, begin_all, end_channels, set_standing};
 pub use circuit::{ClientCircuit, Connection};
 pub use clearing::is_used;
 pub use connecting::{connect, new_connection};
-pub use ending::{bring_back, resume};
+pub use ending::resume;
 pub use ends::Address;
 pub use finding::{find, pause_found};
 pub use first::First;

@@ -7,9 +7,9 @@ ghost use Rattle.ca_client_tables.specs.Receiving.{OpensOrUndoes, all_undone, ha
 ghost use Rattle.ca_client_tables.specs.Receiving.{received_undone};
 
 use crate::beacons::forget_beacon;
-use crate::channels::Channels;
+use crate::channel::Standing;
+use crate::channels::{Channels, set_standing};
 use crate::circuit::ClientCircuit;
-use crate::ending::bring_back;
 use crate::finding::{Found, How};
 use crate::receiving::Received;
 use ca_arena::Handle;
@@ -92,7 +92,7 @@ pub(crate) fn lose(
         ≡ found_undone found
         (halfway channels.old circuits.old opening.old.items order.old.items) }
 {
-    bring_back(channels, found.channel);
+    set_standing(channels, found.channel, Standing::Searching);
     match found.how {
         How::Waits => {}
         How::Created(waiting) => cut_on(circuits, found.circuit, waiting),
