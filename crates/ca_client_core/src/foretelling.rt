@@ -42,7 +42,8 @@ impl ClientCore {
     ) -> Result<Vec<Sending>, AllocError>
         ensures ok { IfOk result (λ sent. map sending_of sent.items
             ≡ foretold self.now circuit from (message_of header.now [])) }
-        ensures some { OnErr result (foretold self.now circuit from (message_of header.now []) ≢ []) }
+        ensures some { OnErr result
+            (foretold self.now circuit from (message_of header.now []) ≢ []) }
     {
         if header.command == Command::Search.number() {
             return self.sent_by_found(from, header);

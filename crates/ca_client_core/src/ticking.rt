@@ -8,15 +8,18 @@ ghost use Rattle.ca_model.specs.ClientEnds.{ClientTicks, Ticking, to_server};
 ghost use Rattle.ca_client_core.specs.Marks.{undone};
 ghost use Rattle.ca_client_core.specs.Moments.{all_ended, end_step};
 ghost use Rattle.ca_client_core.specs.Ticked.{CarriesOut, LacksMemory, Plans, Reports};
+ghost use Rattle.ca_text.specs.Limits.{arena_slots};
+ghost use Rattle.ca_client_tables.specs.Ahead.{Once, due_after, is_in};
 
 use crate::client::ClientCore;
 use crate::closing::Closing;
 use crate::for_histories::Sending;
 use crate::marks::CircuitMark;
 use crate::notices::Notices;
-use crate::searches::pass;
+use crate::searches::{due_in, find_after, pass};
 use ca_arena::Handle;
 use ca_client_tables::{AddressedDatagram, Why, packed, to_servers};
+use ca_search::Search;
 use ca_text::Refusal;
 use ca_wire::Pipe;
 use std::alloc::AllocError;
@@ -187,5 +190,36 @@ impl ClientCore {
         ensures { self.new ≡ record self.old { moment = moment } }
     {
         self.moment = moment;
+    }
+
+    // The searches that are due once these circuits have ended, in order.
+    fn due_after(&self, ends: &[Handle]) -> Result<Vec<Search>, AllocError>
+        ensures found { IfOk result (λ v. v.items
+            ≡ due_after (is_in ends.now) self.now.moment self.now.channels self.now.searches) }
+        ensures some { OnErr result (due_after
+            (is_in ends.now)
+            self.now.moment
+            self.now.channels
+            self.now.searches ≢ []) }
+    {
+        if ends.is_empty() {
+            return due_in(self.alloc, &self.searches, self.moment);
+        }
+        find_after(
+            self.alloc,
+            &self.channels,
+            &self.searches,
+            ends,
+            self.moment,
+        )
+    }
+
+    // There are no more channels than CIDs have indices, and each CID is searched for once.
+    fn know_searches(&self)
+        ensures few { length self.now.channels ≤ arena_slots }
+        ensures once { Once self.now.searches }
+    {
+        self.channels.know_places();
+        self.searches.know_once();
     }
 }

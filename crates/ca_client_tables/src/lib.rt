@@ -25,7 +25,6 @@ mod foretelling;
 mod input;
 mod letting_go;
 mod live_channels;
-mod marks;
 mod noting;
 mod output;
 mod packing;
