@@ -417,7 +417,7 @@ impl<L: Listener> Context<L> {
         let Some(mut guard) = self.shared.hold_to_lead(rt) else {
             return Led::Left;
         };
-        let brought = guard.move_all();
+        let brought = guard.move_bytes(true);
         let found = caller.collect(ticket);
         let waits = !brought.any && !brought.more && found.is_none();
         if waits {
@@ -441,7 +441,7 @@ impl<L: Listener> Context<L> {
         self.shared.watch(rt, most);
         let mut guard = self.shared.hold(rt);
         guard.lead.end();
-        let brought = guard.move_all();
+        let brought = guard.move_bytes(true);
         let calls = guard.calls(brought);
         drop(guard);
         self.shared.leave(calls);
