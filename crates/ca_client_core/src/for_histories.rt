@@ -6,6 +6,7 @@ ghost use Rattle.ca_client_core.specs.ForHistories.{sending_of};
 
 use crate::client::ClientCore;
 use ca_arena::Handle;
+use ca_client_tables::First;
 use ca_text::{Command, Refusal};
 use ca_wire::Message;
 use std::alloc::AllocError;
@@ -122,5 +123,11 @@ pub fn flow_of(core: &ClientCore, circuit: Handle, more: bool) -> Option<Command
 pub fn sent_by_step(core: &ClientCore, circuit: Handle) -> Result<Vec<Sending>, AllocError>
     ensures { TellsNext core.now circuit result }
 {
-    core.sent_by_next(circuit)
+    let Some(found) = core.circuits.by_handle(circuit) else {
+        return Ok(Vec::new(core.alloc));
+    };
+    let First::Message(head) = found.first() else {
+        return Ok(Vec::new(core.alloc));
+    };
+    core.sent_by(circuit, found.address, &head.header)
 }

@@ -3,14 +3,14 @@ ghost use Rattle.std.specs.Prelude.{◌≡◌, ◌≢◌, ◌∷◌, [], IfOk, O
 ghost use Rattle.ca_requests.specs.Meaning.{message_of};
 ghost use Rattle.ca_model.specs.ClientCalls.{clear_sent, event_add_sent};
 ghost use Rattle.ca_model.specs.Hears.{event_adds};
-ghost use Rattle.ca_client_core.specs.ForHistories.{TellsNext, sending_of};
+ghost use Rattle.ca_client_core.specs.ForHistories.{sending_of};
 ghost use Rattle.ca_client_core.specs.Foretelling.{adds_sent, foretold, found_sent};
 ghost use Rattle.ca_client_core.specs.Hearing.{created_by, left_by};
 
 use crate::client::ClientCore;
 use crate::for_histories::{Aim, Sending};
 use ca_arena::Handle;
-use ca_client_tables::{Address, Creation, First, Phase, creation_by};
+use ca_client_tables::{Address, Creation, Phase, creation_by};
 use ca_ids::WireId;
 use ca_monitor::Subscription;
 use ca_text::Command;
@@ -18,23 +18,9 @@ use ca_wire::{Cid, Header, Ioid, Sid, Wanted, clear_request, event_add_request};
 use std::alloc::{AllocError, Global};
 
 impl ClientCore {
-    // What the next message of a circuit makes the client send, if one waits. Only a message
-    // to send takes memory.
-    pub(crate) fn sent_by_next(&self, circuit: Handle) -> Result<Vec<Sending>, AllocError>
-        ensures { TellsNext self.now circuit result }
-    {
-        let Some(found) = self.circuits.by_handle(circuit) else {
-            return Ok(Vec::new(self.alloc));
-        };
-        let First::Message(head) = found.first() else {
-            return Ok(Vec::new(self.alloc));
-        };
-        self.sent_by(circuit, found.address, &head.header)
-    }
-
     // What a message with this header makes the client send, on a circuit to this address. Its
     // payload plays no part.
-    fn sent_by(
+    pub(crate) fn sent_by(
         &self,
         circuit: Handle,
         from: Address,

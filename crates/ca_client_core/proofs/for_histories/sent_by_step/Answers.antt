@@ -8,21 +8,21 @@ use Rattle.ca_client_core.specs.declared.for_histories.Sending.{Sending}
 use Rattle.ca_client_core.specs.ForHistories.{SendsNext}
 use Rattle.ca_client_core.specs.Foretelling.{foretold}
 use Rattle.ca_client_core.proofs.Foretold.{message-waits, no-message, sends-next, sends-some, tells-more}
-use Rattle.ca_client_core.proofs.client.ClientCore.sent_by_next.Goals as goal
+use Rattle.ca_client_core.proofs.for_histories.sent_by_step.Goals as goal
 
 pub returns-in_default-first : goal.returns-in_default-first
 returns-in_default-first c =
-    let x : Client = c.args.self.now in
+    let x : Client = c.args.core.now in
     let d : ClientCircuit = c.in-Some.found.now in
-    let there : Some d ≡ under x.circuits c.args.circuit = c.in-Some.ensures ∙ ap (λ (y : Client). under y.circuits c.args.circuit) c.self.view_is in
+    let there : Some d ≡ under x.circuits c.args.circuit = c.in-Some.ensures ∙ ap (λ (y : Client). under y.circuits c.args.circuit) c.core.view_is in
     let items : c.new-in_default-first.result.items ≡ [] = c.new-in_default-first.ensures.items in
     (subst (λ (z : List Sending). SendsNext x c.args.circuit z) (sym items) (no-message x c.args.circuit d c.first.result there c.first.ensures c.in_default-first.not-Message), λ none. items)
 
 pub returns : goal.returns
 returns c =
-    let x : Client = c.args.self.now in
+    let x : Client = c.args.core.now in
     let d : ClientCircuit = c.in-Some.found.now in
-    let there : Some d ≡ under x.circuits c.args.circuit = c.in-Some.ensures ∙ ap (λ (y : Client). under y.circuits c.args.circuit) c.self.view_is in
+    let there : Some d ≡ under x.circuits c.args.circuit = c.in-Some.ensures ∙ ap (λ (y : Client). under y.circuits c.args.circuit) c.core.view_is in
     let from : Address = c.found.inside.address in
     let at : from ≡ d.address = ap (λ (e : ClientCircuit). e.address) c.found.view_is in
     let m : Fields = message_of c.in-Message.head.header [] in
