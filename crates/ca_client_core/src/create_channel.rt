@@ -19,11 +19,12 @@ ghost use Rattle.ca_client_core.specs.Turns.{MayTurn};
 use crate::client::ClientCore;
 use crate::notice::Notice;
 use crate::notices::Notices;
+use crate::subscribing::add_message;
 use ca_arena::Handle;
 use ca_client_tables::{Native, Phase};
 use ca_ids::WireId;
 use ca_monitor::Subscription;
-use ca_wire::{Cid, Head, Header, Ioid, Sid, Wanted, clear_request, event_add_request};
+use ca_wire::{Cid, Head, Header, Sid, clear_request};
 use std::alloc::AllocError;
 
 impl ClientCore {
@@ -152,16 +153,8 @@ impl ClientCore {
             ≡ with_message circuit (add_message sid standing) self.old) }
         ensures err { OnErr result (self.new ≡ self.old) }
     {
-        let (subscription, found) = standing;
-        let wanted = Wanted {
-            sid: Sid::new(sid),
-            id: Ioid::new(WireId::of(subscription).number()),
-            data_type: found.data_type,
-            count: found.count,
-        };
-        let message = event_add_request(self.alloc, wanted, found.mask)?;
-        self.queue(circuit, &message)?;
-        Ok(())
+        let message = add_message(self.alloc, sid, standing)?;
+        self.queue(circuit, &message)
     }
 }
 

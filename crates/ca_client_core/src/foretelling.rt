@@ -9,12 +9,13 @@ ghost use Rattle.ca_client_core.specs.Hearing.{created_by, left_by};
 
 use crate::client::ClientCore;
 use crate::for_histories::{Aim, Sending};
+use crate::subscribing::add_message;
 use ca_arena::Handle;
 use ca_client_tables::{Address, Creation, Phase, creation_by};
 use ca_ids::WireId;
 use ca_monitor::Subscription;
 use ca_text::Command;
-use ca_wire::{Cid, Header, Ioid, Sid, Wanted, clear_request, event_add_request};
+use ca_wire::{Cid, Header, Sid, clear_request};
 use std::alloc::{AllocError, Global};
 
 impl ClientCore {
@@ -152,14 +153,8 @@ fn add_of(
     ensures { IfOk result (λ s. sending_of s
         ≡ event_add_sent circuit sid standing.0 standing.1) }
 {
+    let message = add_message(alloc, sid, standing)?;
     let (subscription, found) = standing;
-    let wanted = Wanted {
-        sid: Sid::new(sid),
-        id: Ioid::new(WireId::of(subscription).number()),
-        data_type: found.data_type,
-        count: found.count,
-    };
-    let message = event_add_request(alloc, wanted, found.mask)?;
     let aim = Aim::Subscribe(found.channel, subscription);
     Ok(Sending {
         circuit,
