@@ -330,7 +330,7 @@ int32_t cvz_client_subscribe(cvz_client *client, uint64_t channel, uint16_t type
 /* Ends the subscription. 0, CVZ_STALE_HANDLE, CVZ_OUTPUT_FULL or CVZ_OUT_OF_MEMORY. */
 int32_t cvz_client_unsubscribe(cvz_client *client, uint64_t subscription);
 
-/* Writes the circuit at this place, from 0, of those that are to be connected. 1, 0 if there is none, or CVZ_OUT_OF_MEMORY. */
+/* Writes the circuit at this place, from 0, of those that are to be connected. 1, or 0 if there is none. */
 int32_t cvz_client_wanted(cvz_client *client, size_t place, cvz_wanted *told);
 
 /* The circuit was connected. 0; or CVZ_CLOSED, with the cause: then it reports, and cvz_client_left has what is left to be sent. */

@@ -147,8 +147,7 @@ TellsWanted None n before after = (n ≡ pos 0) × (after ≡ before)
 abbrev pub DoesWanted : ClientObject → ℤ → ClientObject → (place : ℕ) → (before after : CvzWanted)
     → Type 0
 DoesWanted s n t place before after =
-    (TellsWanted (slice_get (wanted s.core) place) n before after × (t ≡ s))
-    ⊎ ((n ≡ refusal_code refusal.OutOfMemory) × (wanted s.core ≢ []) × (after ≡ before) × (t ≡ s))
+    TellsWanted (slice_get (wanted s.core) place) n before after × (t ≡ s)
 
 abbrev pub Connected : Option Closing → ClientObject → ℤ → ClientObject → (before after : ℕ)
     → Type 0

@@ -152,13 +152,10 @@ impl ClientObject {
     pub(crate) fn wanted(&self, place: usize, told: &mut CvzWanted) -> i32
         ensures { DoesWanted self.now result self.now place told.old told.new }
     {
-        let Ok(wanted) = self.core.wanted() else {
-            return refused(Refusal::OutOfMemory);
-        };
-        let Some(found) = wanted.get(place) else {
+        let Some(found) = self.core.wanted(place) else {
             return 0;
         };
-        *told = c_wanted(found);
+        *told = c_wanted(&found);
         1
     }
 

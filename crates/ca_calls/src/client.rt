@@ -161,7 +161,10 @@ fn clear(
 
 /// `wanted`.
 fn wanted(core: &ClientCore, answer: &mut AnswerText) -> Result<(), Refusal> {
-    for found in &core.wanted()? {
+    for place in 0..core.circuits_listed() {
+        let Some(found) = core.wanted(place) else {
+            break;
+        };
         answer.handle(found.circuit)?;
         answer.address(found.address)?;
         answer.number(u64::from(found.priority))?;

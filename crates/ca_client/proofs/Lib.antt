@@ -11,4 +11,3 @@ pub mod Given
 pub mod Frames
 pub mod Drained
 pub mod Ticked
-pub mod Tapes

@@ -22,18 +22,6 @@ use ca_client_core::{Closing, Reply, Stepped};
 pub fn step_under_lock(state: &mut ClientState, asked: CoreCall) -> Answer
     ensures { HasSteppedUnderLock state.old asked result state.new }
 {
-    if let CoreCall::Step(circuit) = asked {
-        return step(state, circuit);
-    }
-    step_any(state, asked)
-}
-
-// Makes one call of the core, as `step_under_lock`. Most calls are steps, and a function pays for
-// the locals of all that it takes into itself: so the other calls are out of line.
-#[inline(never)]
-fn step_any(state: &mut ClientState, asked: CoreCall) -> Answer
-    ensures { HasSteppedUnderLock state.old asked result state.new }
-{
     match asked {
         CoreCall::Step(circuit) => step(state, circuit),
         CoreCall::Cut(circuit) => Answer::Closed(cut(state, circuit)),

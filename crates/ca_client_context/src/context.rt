@@ -82,9 +82,29 @@ impl<L: Listener> Context<L> {
             names,
             repeater,
         } = setting;
-        let parts = Parts::new(&rt, alloc, repeater)?;
+        let Ok(began) = Instant::now(&rt) else {
+            return Err(Refusal::Device);
+        };
+        let (sockets, call_poll, registry, datagrams) = open_sockets(&rt, alloc, repeater)?;
         let state = ClientState::new(alloc, user, host, servers, &names, 0)?;
-        joined(rt, alloc, state, parts)
+        let locked = LockedClient::new(alloc, state)?;
+        let sockets_waker = waker(&registry)?;
+        let thread_waker = waker(call_poll.registry())?;
+        let shared = SharedClient::new(locked, sockets, sockets_waker, thread_waker);
+        let shared = Arc::new(alloc, shared)?;
+        let engine = Engine {
+            net: rt,
+            shared: Arc::try_clone(&shared)?,
+            registry,
+            call_poll,
+            events: Events::with_capacity(alloc, 4)?,
+            datagrams,
+            tries: Tries::new(alloc),
+            listeners: SubscribedListeners::new(alloc)?,
+            told: Vec::new(alloc),
+            moments: Moments::new(began),
+        };
+        Ok((Context { shared }, engine))
     }
 
     /// A caller, for one thread.
@@ -115,7 +135,7 @@ impl<L: Listener> Context<L> {
     /// as `ClientCore::open`.
     pub fn open<R: Wait>(&self, rt: &R, name: &[u8], priority: u16) -> Result<Handle, Refusal> {
         let opened = self.shared.locked.lock(rt).open(name, priority);
-        self.wake();
+        self.shared.wake();
         opened
     }
 
@@ -131,7 +151,7 @@ impl<L: Listener> Context<L> {
     /// 99, and then as `open`.
     pub fn open_spread<R: Wait>(&self, rt: &R, name: &[u8]) -> Result<Handle, Refusal> {
         let opened = self.shared.locked.lock(rt).open_spread(name);
-        self.wake();
+        self.shared.wake();
         opened
     }
 
@@ -195,7 +215,7 @@ impl<L: Listener> Context<L> {
         self.shared.ask();
         drop(guard);
         if !all {
-            self.wake();
+            self.shared.wake();
         }
         made
     }
@@ -222,10 +242,9 @@ impl<L: Listener> Context<L> {
     // Makes a request, and lets the lock go.
     fn issue_under(
         &self,
-        guard: MutexGuard<'_, LockedClient<L>>,
+        mut guard: MutexGuard<'_, LockedClient<L>>,
         request: &RequestCall,
     ) -> Result<Ticket, Refusal> {
-        let mut guard = guard;
         let issued = issue_under_lock(&mut guard.state, request);
         let all = guard.note();
         if guard.needs_thread() {
@@ -233,7 +252,7 @@ impl<L: Listener> Context<L> {
         }
         drop(guard);
         if !all {
-            self.wake();
+            self.shared.wake();
         }
         let (_, ticket) = issued?;
         Ok(ticket)
@@ -242,7 +261,7 @@ impl<L: Listener> Context<L> {
     /// Writes a value, with no outcome: it goes out at once. Refused as `ClientCore::write`.
     pub fn put<R: Wait>(&self, rt: &R, channel: Handle, value: &Value) -> Result<(), Refusal> {
         let written = self.shared.locked.lock(rt).state.write(channel, value);
-        self.wake();
+        self.shared.wake();
         written
     }
 
@@ -262,7 +281,7 @@ impl<L: Listener> Context<L> {
             .locked
             .lock(rt)
             .monitor(channel, data_type, count, mask, listener);
-        self.wake();
+        self.shared.wake();
         added
     }
 
@@ -276,7 +295,7 @@ impl<L: Listener> Context<L> {
         if ended.is_ok() {
             self.shared.cancel();
         }
-        self.wake();
+        self.shared.wake();
         ended
     }
 
@@ -395,11 +414,10 @@ impl<L: Listener> Context<L> {
         ticket: Ticket,
         most: Duration,
     ) -> Led {
-        let Some(guard) = self.shared.hold_to_lead(rt) else {
+        let Some(mut guard) = self.shared.hold_to_lead(rt) else {
             return Led::Left;
         };
-        let mut guard = guard;
-        let brought = guard.move_all();
+        let brought = guard.move_bytes(true);
         let found = caller.collect(ticket);
         let waits = !brought.any && !brought.more && found.is_none();
         if waits {
@@ -423,7 +441,7 @@ impl<L: Listener> Context<L> {
         self.shared.watch(rt, most);
         let mut guard = self.shared.hold(rt);
         guard.lead.end();
-        let brought = guard.move_all();
+        let brought = guard.move_bytes(true);
         let calls = guard.calls(brought);
         drop(guard);
         self.shared.leave(calls);
@@ -465,10 +483,6 @@ impl<L: Listener> Context<L> {
     pub fn end<R: Wait>(&self, rt: &R) {
         self.shared.locked.lock(rt).ending = true;
         self.shared.call_all();
-    }
-
-    fn wake(&self) {
-        self.shared.wake();
     }
 }
 
@@ -538,91 +552,26 @@ impl<L: Listener> LockedClient<L> {
     }
 }
 
-// What an engine is made of, beside the client's state.
-#[derive(Drop)]
-struct Parts<L: Listener> {
-    sockets: SocketPoll,
-    sockets_waker: Waker,
-    registry: Registry,
-    call_poll: Poll,
-    thread_waker: Waker,
-    events: Events<Global>,
-    datagrams: UdpSocket,
-    listeners: SubscribedListeners<L>,
-    began: Instant,
-}
-
-impl<L: Listener> Parts<L> {
-    // A register goes to the repeater, if there is one.
-    fn new<R: Net + Clock>(
-        rt: &R,
-        alloc: Global,
-        repeater: Option<Address>,
-    ) -> Result<Parts<L>, Refusal> {
-        let Ok(began) = Instant::now(rt) else {
-            return Err(Refusal::Device);
-        };
-        let sockets = SocketPoll {
-            poll: poll(rt)?,
-            events: Events::with_capacity(alloc, 256)?,
-        };
-        let call_poll = poll(rt)?;
-        let Ok(registry) = sockets.poll.registry().try_clone() else {
-            return Err(Refusal::Device);
-        };
-        let datagrams = datagrams(rt, &registry, call_poll.registry())?;
-        if let Some(address) = repeater {
-            let _ = datagrams.send_to(&register(Ipv4Addr::LOCALHOST), to_system(address));
-        }
-        Ok(Parts {
-            sockets_waker: waker(&registry)?,
-            thread_waker: waker(call_poll.registry())?,
-            sockets,
-            registry,
-            call_poll,
-            datagrams,
-            events: Events::with_capacity(alloc, 4)?,
-            listeners: SubscribedListeners::new(alloc)?,
-            began,
-        })
-    }
-}
-
-fn joined<R: Net + Clock + Copy + Drop, L: Listener>(
-    rt: R,
+// What waits for the sockets, and what waits to be called; where sockets are registered; and the
+// socket for datagrams. A register goes to the repeater, if there is one.
+fn open_sockets<R: Net>(
+    rt: &R,
     alloc: Global,
-    state: ClientState,
-    parts: Parts<L>,
-) -> Result<(Context<L>, Engine<R, L>), Refusal> {
-    let Parts {
-        sockets,
-        sockets_waker,
-        registry,
-        call_poll,
-        thread_waker,
-        events,
-        datagrams,
-        listeners,
-        began,
-    } = parts;
-    let locked = LockedClient::new(alloc, state)?;
-    let shared = Arc::new(
-        alloc,
-        SharedClient::new(locked, sockets, sockets_waker, thread_waker),
-    )?;
-    let engine = Engine {
-        net: rt,
-        shared: Arc::try_clone(&shared)?,
-        registry,
-        call_poll,
-        events,
-        datagrams,
-        tries: Tries::new(alloc),
-        listeners,
-        told: Vec::new(alloc),
-        moments: Moments::new(began),
+    repeater: Option<Address>,
+) -> Result<(SocketPoll, Poll, Registry, UdpSocket), Refusal> {
+    let sockets = SocketPoll {
+        poll: poll(rt)?,
+        events: Events::with_capacity(alloc, 256)?,
     };
-    Ok((Context { shared }, engine))
+    let call_poll = poll(rt)?;
+    let Ok(registry) = sockets.poll.registry().try_clone() else {
+        return Err(Refusal::Device);
+    };
+    let datagrams = datagrams(rt, &registry, call_poll.registry())?;
+    if let Some(address) = repeater {
+        let _ = datagrams.send_to(&register(Ipv4Addr::LOCALHOST), to_system(address));
+    }
+    Ok((sockets, call_poll, registry, datagrams))
 }
 
 fn poll<R: Net>(rt: &R) -> Result<Poll, Refusal> {
@@ -647,14 +596,15 @@ fn datagrams<R: Net>(rt: &R, sockets: &Registry, call: &Registry) -> Result<UdpS
         return Err(Refusal::Device);
     };
     // Searches go to broadcast addresses too.
-    let Ok(()) = datagrams.set_broadcast(true) else {
+    let is_registered = datagrams.set_broadcast(true).is_ok()
+        && sockets
+            .register(&mut datagrams, DATAGRAMS, Interest::READABLE)
+            .is_ok()
+        && call
+            .register(&mut datagrams, DATAGRAMS, Interest::READABLE)
+            .is_ok();
+    if !is_registered {
         return Err(Refusal::Device);
-    };
-    let Ok(()) = sockets.register(&mut datagrams, DATAGRAMS, Interest::READABLE) else {
-        return Err(Refusal::Device);
-    };
-    let Ok(()) = call.register(&mut datagrams, DATAGRAMS, Interest::READABLE) else {
-        return Err(Refusal::Device);
-    };
+    }
     Ok(datagrams)
 }

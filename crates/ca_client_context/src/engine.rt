@@ -233,7 +233,7 @@ fn turn<N: Net, L: Listener>(
         tries,
         now,
     );
-    let sent = locked.send_all();
+    let sent = locked.move_bytes(false);
     let brought = brought.and(sent);
     Brought {
         any: brought.any || ended || told_before,

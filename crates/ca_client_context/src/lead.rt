@@ -92,12 +92,7 @@ impl Lead {
     // A caller would lead. It says whether that may.
     pub(crate) fn may_lead(&mut self) -> bool {
         self.wished = LATELY;
-        !self.hears && self.is_free()
-    }
-
-    // Whether nobody waits for the sockets.
-    fn is_free(&self) -> bool {
-        matches!(self.watcher, Watcher::Nobody)
+        !self.hears && matches!(self.watcher, Watcher::Nobody)
     }
 
     // Whether a caller waits for the sockets.

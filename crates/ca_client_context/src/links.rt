@@ -127,7 +127,8 @@ impl Tries {
     }
 }
 
-// Connects the circuits that are wanted. One that cannot be is cut.
+// Connects the circuits that are wanted. One that cannot be is cut, and if it is gone then the next
+// one waits for the next turn.
 pub(crate) fn connect<R: Net>(
     rt: &R,
     state: &mut ClientState,
@@ -136,18 +137,18 @@ pub(crate) fn connect<R: Net>(
     tries: &mut Tries,
     now: u64,
 ) {
-    let Ok(wanted) = state.core().wanted() else {
-        return;
-    };
-    for index in 0..wanted.len() {
-        let circuit = wanted[index].circuit;
+    for place in 0..state.core().circuits_listed() {
+        let Some(wanted) = state.core().wanted_at(place) else {
+            continue;
+        };
+        let circuit = wanted.circuit;
         if !tries.is_due(circuit, now) {
             continue;
         }
         if links.reserve(1).is_err() || tries.note(circuit, now).is_err() {
             return;
         }
-        match reach(rt, registry, wanted[index]) {
+        match reach(rt, registry, wanted) {
             Some(link) => {
                 if let Answer::Connected = step_under_lock(state, CoreCall::Connect(circuit)) {
                     links.push_reserved(link);
@@ -239,19 +240,22 @@ impl Brought {
     }
 }
 
-// Moves the bytes of all circuits, and reads their messages.
+// Sends what waits on all circuits, as far as that can be now, and reads their messages, or none.
 pub(crate) fn serve(
     state: &mut ClientState,
     links: &mut Vec<ConnectedCircuit>,
     told: &mut Vec<ListenerNotices>,
+    reads: bool,
 ) -> Brought {
     let mut brought = Brought::nothing();
-    for turn in 0..links.len() {
-        // From the last to the first, so that one that ends can be taken out.
-        let index = links.len().saturating_sub(turn + 1);
-        match serve_at(state, links, index, told) {
-            Served::On(one) => brought = brought.and(one),
-            Served::Over => {
+    // From the last to the first, so that one that ends can be taken out.
+    for index in (0..links.len()).rev() {
+        let Some(link) = links.get_mut(index) else {
+            continue;
+        };
+        match serve_one(state, link, told, reads) {
+            Some(one) => brought = brought.and(one),
+            None => {
                 forget_at(links, index);
                 brought = brought.and(Brought::of_end());
             }
@@ -265,121 +269,38 @@ pub(crate) fn is_any_full(links: &[ConnectedCircuit]) -> bool {
     links.iter().any(|link| link.wire.full)
 }
 
-// Whether something waits to be sent on a circuit for which there may be room.
-pub(crate) fn is_any_behind(links: &[ConnectedCircuit]) -> bool {
-    links.iter().any(|link| link.wire.behind)
-}
-
-// Sends what waits on all circuits, as far as that can be now. It says whether all went
-// and no circuit ended.
-pub(crate) fn send_all(
-    state: &mut ClientState,
-    links: &mut Vec<ConnectedCircuit>,
-    told: &mut Vec<ListenerNotices>,
-) -> bool {
-    let mut all = true;
-    for turn in 0..links.len() {
-        let index = links.len().saturating_sub(turn + 1);
-        match send_at(state, links, index, told) {
-            Served::On(one) => all = all && !one.more,
-            Served::Over => {
-                forget_at(links, index);
-                all = false;
-            }
-        }
-    }
-    all
-}
-
-// What became of a circuit.
-#[derive(Drop)]
-enum Served {
-    // It goes on.
-    On(Brought),
-    Over,
-}
-
-impl Served {
-    // Something is left to be moved or read.
-    fn behind() -> Served {
-        Served::On(Brought {
-            any: true,
-            more: true,
-            news: false,
-        })
-    }
-}
-
-fn serve_at(
-    state: &mut ClientState,
-    links: &mut Vec<ConnectedCircuit>,
-    index: usize,
-    told: &mut Vec<ListenerNotices>,
-) -> Served {
-    match links.get_mut(index) {
-        Some(link) => serve_one(state, link, told),
-        None => Served::On(Brought::nothing()),
-    }
-}
-
-fn send_at(
-    state: &mut ClientState,
-    links: &mut Vec<ConnectedCircuit>,
-    index: usize,
-    told: &mut Vec<ListenerNotices>,
-) -> Served {
-    match links.get_mut(index) {
-        Some(link) => send_one(state, link, told),
-        None => Served::On(Brought::nothing()),
-    }
-}
-
-fn send_one(
-    state: &mut ClientState,
-    link: &mut ConnectedCircuit,
-    told: &mut Vec<ListenerNotices>,
-) -> Served {
-    // Nothing is sent without room for what a fault reports.
-    if told.reserve(1).is_err() || link.wire.faults() >= MOST_FAULTS {
-        return Served::behind();
-    }
-    link.wire.drained = true;
-    if let Some(closing) = turn_over(state, link.circuit, &mut link.wire) {
-        keep(told, closing.notices);
-        return Served::Over;
-    }
-    if link.wire.behind {
-        Served::behind()
-    } else {
-        Served::On(Brought::nothing())
-    }
-}
-
+// What a turn brought on one circuit, unless it has ended.
 fn serve_one(
     state: &mut ClientState,
     link: &mut ConnectedCircuit,
     told: &mut Vec<ListenerNotices>,
-) -> Served {
-    // Nothing is read without room for what it tells.
+    reads: bool,
+) -> Option<Brought> {
+    // Nothing is moved without room for what it tells.
     if told.reserve(1).is_err() {
-        return Served::On(Brought::nothing());
+        return Some(Brought::nothing());
     }
     if link.wire.faults() >= MOST_FAULTS {
         if let Answer::Closed(closing) = step_under_lock(state, CoreCall::Cut(link.circuit)) {
             keep(told, closing.notices);
         }
-        return Served::Over;
+        return None;
     }
-    link.wire.drained = false;
+    link.wire.drained = !reads;
     link.wire.came = false;
     if let Some(closing) = turn_over(state, link.circuit, &mut link.wire) {
         keep(told, closing.notices);
-        return Served::Over;
+        return None;
     }
-    match handle_all(state, link.circuit, told) {
-        Served::On(brought) => Served::On(brought.and(link.left(brought))),
-        Served::Over => Served::Over,
+    if !reads {
+        return Some(Brought {
+            any: false,
+            more: link.wire.behind,
+            news: false,
+        });
     }
+    let brought = handle_all(state, link.circuit, told)?;
+    Some(brought.and(link.left(brought)))
 }
 
 impl ConnectedCircuit {
@@ -396,12 +317,16 @@ impl ConnectedCircuit {
 }
 
 // Handles the messages that came on a circuit.
-fn handle_all(state: &mut ClientState, circuit: Handle, told: &mut Vec<ListenerNotices>) -> Served {
+fn handle_all(
+    state: &mut ClientState,
+    circuit: Handle,
+    told: &mut Vec<ListenerNotices>,
+) -> Option<Brought> {
     let mut brought = Brought::nothing();
     let mut left = STEPS;
     for _ in 0..STEPS {
         if told.reserve(1).is_err() {
-            return Served::On(brought);
+            return Some(brought);
         }
         let steps = step_all(state, circuit, left);
         brought.any = brought.any || steps.replies > 0;
@@ -415,12 +340,12 @@ fn handle_all(state: &mut ClientState, circuit: Handle, told: &mut Vec<ListenerN
             Answer::Filled => break,
             Answer::Closed(closing) => {
                 keep(told, closing.notices);
-                return Served::Over;
+                return None;
             }
-            _ => return Served::On(brought),
+            _ => return Some(brought),
         }
     }
-    Served::On(Brought {
+    Some(Brought {
         any: true,
         more: true,
         news: brought.news,

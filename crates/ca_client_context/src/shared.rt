@@ -2,9 +2,7 @@
 //! words by which they wake each other without it. That no wake is lost depends on the order of
 //! writes and reads: see the comments of `doze`, `park`, `pass` and `leave`.
 use crate::lead::{LATELY, Lead, SocketPoll};
-use crate::links::{
-    Brought, ConnectedCircuit, ListenerNotices, is_any_behind, is_any_full, send_all, serve,
-};
+use crate::links::{Brought, ConnectedCircuit, ListenerNotices, is_any_full, serve};
 use crate::listener::{Change, Listener};
 use crate::spread::Spread;
 use ca_board::Ticket;
@@ -138,8 +136,8 @@ impl<L: Listener> LockedClient<L> {
     // Sends what waits on all circuits, as far as that can be now. It says whether nothing is left
     // for the thread of input and output.
     pub(crate) fn send(&mut self) -> bool {
-        self.unsent = 0;
-        send_all(&mut self.state, &mut self.links, &mut self.told)
+        let brought = self.move_bytes(false);
+        !brought.any && !brought.more
     }
 
     // A caller would move bytes. It says whether that may.
@@ -151,29 +149,14 @@ impl<L: Listener> LockedClient<L> {
     // waits for the sockets it leaves the reading to that one, who may have been told of what
     // came, and is not late.
     pub(crate) fn serve(&mut self) -> Brought {
-        if self.lead.is_read() {
-            return self.send_all();
-        }
-        self.move_all()
+        let reads = !self.lead.is_read();
+        self.move_bytes(reads)
     }
 
-    // Sends what waits on all circuits, as far as that can be now. It says whether circuits ended,
-    // and whether something is left.
-    pub(crate) fn send_all(&mut self) -> Brought {
-        let links = self.links.len();
-        self.send();
-        let ended = self.links.len() < links;
-        Brought {
-            any: ended,
-            more: is_any_behind(&self.links),
-            news: ended,
-        }
-    }
-
-    // Moves bytes, and reads what came.
-    pub(crate) fn move_all(&mut self) -> Brought {
+    // Sends what waits on all circuits, as far as that can be now, and reads what came, or nothing.
+    pub(crate) fn move_bytes(&mut self, reads: bool) -> Brought {
         self.unsent = 0;
-        serve(&mut self.state, &mut self.links, &mut self.told)
+        serve(&mut self.state, &mut self.links, &mut self.told, reads)
     }
 
     // Whether there is something for the thread of input and output to do, after
@@ -282,8 +265,7 @@ impl<L: Listener> SharedClient<L> {
 
     // Waits for the sockets, for this time or a turn at most.
     pub(crate) fn watch<R: Wait + Clock>(&self, rt: &R, most: Duration) {
-        let mut guard = self.sockets.lock(rt);
-        guard.watch(rt, most);
+        self.sockets.lock(rt).watch(rt, most);
     }
 
     // Takes the lock for a caller that leads, if this one may: no other waits, or did lately, and
@@ -323,8 +305,7 @@ impl<L: Listener> SharedClient<L> {
     pub(crate) fn tick(&self) {
         let crowded = self.crowded.load(Ordering::SeqCst);
         if crowded != 0 {
-            self.crowded
-                .store(crowded.saturating_sub(1), Ordering::SeqCst);
+            self.crowded.store(crowded - 1, Ordering::SeqCst);
         }
     }
 
@@ -386,10 +367,7 @@ impl<L: Listener> SharedClient<L> {
     // left for the thread of input and output.
     fn send_now(&self) -> bool {
         match self.locked.try_lock() {
-            Some(guard) => {
-                let mut guard = guard;
-                guard.send()
-            }
+            Some(mut guard) => guard.send(),
             None => false,
         }
     }
@@ -415,21 +393,18 @@ impl<L: Listener> SharedClient<L> {
     // Moves bytes for a caller that does not wait, if it can have the lock at once, and may. It
     // says whether it did.
     fn move_now(&self) -> bool {
-        match self.locked.try_lock() {
-            Some(guard) => {
-                let mut guard = guard;
-                if !guard.may_lead() {
-                    return false;
-                }
-                self.asked.store(0, Ordering::SeqCst);
-                let brought = guard.move_all();
-                let calls = guard.calls(brought);
-                drop(guard);
-                self.leave(calls);
-                true
-            }
-            None => false,
+        let Some(mut guard) = self.locked.try_lock() else {
+            return false;
+        };
+        if !guard.may_lead() {
+            return false;
         }
+        self.asked.store(0, Ordering::SeqCst);
+        let brought = guard.move_bytes(true);
+        let calls = guard.calls(brought);
+        drop(guard);
+        self.leave(calls);
+        true
     }
 
     // Ends its wait, once for all that was changed under the lock meanwhile.

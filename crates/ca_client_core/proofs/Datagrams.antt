@@ -1,7 +1,6 @@
 -- A datagram that came to a client.
-use Rattle.std.proofs.Common.{◌≡◌, ◌≢◌, ◌∙◌, ℕ, true, false, List, [], ◌∷◌, Result, Ok, Err, ap, refl, subst, sym}
+use Rattle.std.proofs.Common.{◌≡◌, ◌≢◌, ◌∙◌, ℕ, true, false, List, [], ◌∷◌, Result, Ok, Err, refl, subst, sym}
 use Rattle.std.specs.Prelude.{IsErr, Vec}
-use Rattle.std.specs.Result.{IsErrAnd}
 use Rattle.std.specs.declared.alloc.AllocError.{AllocError}
 use Rattle.std.specs.declared.alloc.Global.{Global}
 use Rattle.ca_text.specs.declared.refusal.Refusal.{Refusal}
@@ -10,10 +9,8 @@ use Rattle.ca_dgram.specs.Datagram.{IsDatagram, Reads}
 use Rattle.ca_wire.specs.Fields.{Fields}
 use Rattle.ca_wire.specs.Stream.{NoneBegins}
 use Rattle.ca_arena.specs.declared.handle.Handle.{Handle}
-use Rattle.ca_model.specs.Answers.{Sending}
 use Rattle.ca_model.specs.Client.{Client, later}
-use Rattle.ca_model.specs.ClientEnds.{Arrival, ClientReceives, ReceivesAll}
-use Rattle.ca_model.specs.Hears.{Effect}
+use Rattle.ca_model.specs.ClientEnds.{Arrival}
 use Rattle.ca_client_tables.specs.Receiving.{HaveReceived, Parts, all_settled, parts_of, with_parts}
 use Rattle.ca_client_tables.specs.declared.receiving.Received.{Received}
 use Rattle.ca_client_core.specs.declared.for_histories.Sending.{Sending as Foretells}
@@ -23,13 +20,6 @@ use Rattle.ca_client_core.proofs.Arriving.{IsSoundWith, sound-all}
 -- the client at the moment of the datagram
 abbrev pub at_moment : Arrival → Client → Client
 at_moment a x = record x { moment = later a.now x }
-
-pub datagram-received : (x : Client) (a : Arrival) (ms : List Fields) (ds : List Received) (p : Parts) (new : Client) → IsDatagram a.bytes ms → HaveReceived (parts_of x) a.from ms ds p → new ≡ all_settled ds (with_parts p (at_moment a x)) → (sent : List Sending) × ClientReceives x a (Ok tt) sent new
-datagram-received x a ms ds p new is have left =
-    let r = have (at_moment a x) refl in
-    let same : r.0 ≡ record { core = new; sent = r.0.sent; notices = [] } =
-    λ i. record { core = (r.3 ∙ sym left) i; sent = r.0.sent; notices = r.2 i } in
-    (r.0.sent, (ms, is, subst (λ (e : Effect). ReceivesAll a.from (at_moment a x) ms e) same r.1))
 
 -- its parts are sound still
 pub datagram-sound : (ls : List (List Handle)) (x : Client) (a : Arrival) (ms : List Fields) (ds : List Received) (p : Parts) (new : Client) → HaveReceived (parts_of x) a.from ms ds p → new ≡ all_settled ds (with_parts p (at_moment a x)) → IsSoundWith ls x → IsSoundWith ls new
@@ -43,19 +33,6 @@ some-begins bytes [] is some none = some refl
 some-begins bytes (m ∷ ms) is some none =
     let reads = is.stream.reads in
     none m reads.0 reads.1 reads.2 reads.3
-
-pub datagram-refused : (x : Client) (a : Arrival) (ms : List Fields) (new : Client) → IsDatagram a.bytes ms → ms ≢ [] → new ≡ x → (sent : List Sending) × ClientReceives x a (Err refusal.OutOfMemory) sent new
-datagram-refused x a ms new is some same = ([], (some-begins a.bytes ms is some, (refl, same)))
-
--- its bytes could not be read
-pub datagram-unread : (x : Client) (a : Arrival) (e : Refusal) (r : Result (Unit {0}) Refusal) (new : Client) → Reads a.bytes (Err e) → r ≡ Err e → new ≡ x → (sent : List Sending) × ClientReceives x a r sent new
-datagram-unread x a refusal.OutOfMemory r new reads is same =
-    subst (λ (s : Result (Unit {0}) Refusal). (sent : List Sending) × ClientReceives x a s sent new) (sym is) (datagram-refused x a reads.0 new reads.1 reads.2 same)
-datagram-unread x a _ r new reads is same = absurd reads
-
-pub same-error : {A : Type 0} (r : Result A Refusal) (e : Refusal) → IsErrAnd r (λ x. x ≡ e) → r ≡ Err e
-same-error (Ok x) e h = absurd h
-same-error (Err x) e h = ap (λ (y : Refusal). Err y) h
 
 -- one that was not read has a message
 pub unread-begins : (bytes : List ℕ) (r : Result (List Fields) Refusal) → Reads bytes r → ((ms : List Fields) → r ≡ Ok ms → ⊥) → NoneBegins bytes → ⊥

@@ -15,10 +15,20 @@ use Rattle.ca_ids.specs.Table.{Table, held_at, held_from, under, with_changed}
 use Rattle.ca_text.specs.Command.{command_number}
 use Rattle.ca_text.specs.declared.command.Command.{Command}
 use Rattle.ca_text.specs.declared.command.Command.TheVariants as command
+use Rattle.ca_text.specs.declared.refusal.Refusal.TheVariants as refusal
 use Rattle.ca_text.proofs.Places.{some_is}
-use Rattle.ca_link.specs.Link.{with_rest}
+use Rattle.ca_dgram.proofs.Readings.{bad-none, whole-some}
+use Rattle.ca_link.specs.Link.{TakesFirst, with_rest}
 use Rattle.ca_wire.specs.declared.header.Header.{Header}
+use Rattle.ca_wire.specs.declared.reading.Head.{Head}
+use Rattle.ca_wire.specs.declared.reading.One.{One}
+use Rattle.ca_wire.specs.declared.reading.One.TheVariants as one
 use Rattle.ca_wire.specs.Fields.{Fields}
+use Rattle.ca_wire.specs.Message.{header_of}
+use Rattle.ca_wire.specs.Reading.{IsOne, IsWhole}
+use Rattle.ca_wire.specs.Stream.{NoneBegins}
+use Rattle.ca_wire.proofs.Messages.{one-again}
+use Rattle.ca_requests.specs.Meaning.{message_of}
 use Rattle.ca_requests.specs.Requests.{Request, Stage, answered_by}
 use Rattle.ca_requests.specs.Requests as request
 use Rattle.ca_monitor.specs.Subscriptions.{Subscription, confirmed_by}
@@ -28,10 +38,15 @@ use Rattle.ca_model.specs.Client.{Channel, Client, ClientCircuit, Clearing, Conn
 use Rattle.ca_model.specs.ClientCalls.{event_add_sent}
 use Rattle.ca_model.specs.ClientEnds.{ClientSteps, StepsOn, after_taking}
 use Rattle.ca_model.specs.Ends.{Address}
+use Rattle.ca_model.specs.Ends as ends
 use Rattle.ca_model.specs.Hears.{Answers, Completes, Effect, Fails, FindsAt, Hears, PutsOn, Updates, any_failed, clear_answered, confirmed, created, failed, failing, found_at, subscription_on, left, put_on, rights_told, searched_by, subscription_failed, understood, write_failed}
 use Rattle.ca_model.specs.Hears as hears
+use Rattle.ca_client_tables.specs.declared.first.First.{First}
+use Rattle.ca_client_tables.specs.declared.first.First.TheVariants as first
+use Rattle.ca_client_tables.specs.Closings.{why_is}
+use Rattle.ca_client_tables.specs.First.{FirstAt, IsBad}
 use Rattle.ca_client_tables.specs.Finding.{as_found, circuit_in, goes_there, goes_to}
-use Rattle.ca_client_tables.specs.Foretelling.{HeadsFirst, creation_at, creation_on, head_of}
+use Rattle.ca_client_tables.specs.Foretelling.{creation_at, creation_on}
 use Rattle.ca_client_tables.specs.declared.foretelling.Creation.{Creation}
 use Rattle.ca_client_tables.proofs.Circuits.{changed-found, found-changed}
 use Rattle.ca_client_core.specs.declared.for_histories.Sending.{Sending as Foretells}
@@ -96,7 +111,7 @@ module _ (x : Client) (c : Handle) (rest : List ℕ) (m : Fields) where
   abbrev pub taken : Client
   taken = after_taking c rest x
 
-  created-so : (o : Option (Handle × Phase)) → (created taken c m o).sent ≡ (created x c (head_of m) o).sent
+  created-so : (o : Option (Handle × Phase)) → (created taken c m o).sent ≡ (created x c (message_of (header_of m) []) o).sent
   created-so None = refl
   created-so (Some (h, Connecting)) = refl
   created-so (Some (h, Creating r)) = refl
@@ -237,28 +252,28 @@ others-quiet n a b d other =
         let not : list_any (λ (k : Command). l == command_number k) understood ≡ false = subst (λ (z : ℕ). list_any (λ (k : Command). z == command_number k) understood ≡ false) is other in
         absurd cc
 
-pub heard-sent : (x : Client) (c : Handle) (rest : List ℕ) (d : ClientCircuit) (m : Fields) (e : Effect) → under x.circuits c ≡ Some d → Hears (after_taking c rest x) c m e → e.sent ≡ foretold x c d.address (head_of m)
+pub heard-sent : (x : Client) (c : Handle) (rest : List ℕ) (d : ClientCircuit) (m : Fields) (e : Effect) → under x.circuits c ≡ Some d → Hears (after_taking c rest x) c m e → e.sent ≡ foretold x c d.address (message_of (header_of m) [])
 heard-sent x c rest d m e there heard = go heard
   where
     a : List Sending
     a = creation_sent (creation_at (found_at d.address m) x.circuits (searched_by m.p2 x))
 
     b : List Sending
-    b = (created x c (head_of m) (channel_on x c m.p1)).sent
+    b = (created x c (message_of (header_of m) []) (channel_on x c m.p1)).sent
 
     k : List Sending
     k = (left x c (channel_on x c m.p1)).sent
 
-    by : (n : ℕ) → m.command ≡ n → by_command n a b k ≡ foretold x c d.address (head_of m)
+    by : (n : ℕ) → m.command ≡ n → by_command n a b k ≡ foretold x c d.address (message_of (header_of m) [])
     by n is = sym (ap (λ (z : ℕ). by_command z a b k) is)
 
-    quiet : (n : ℕ) → m.command ≡ n → by_command n a b k ≡ [] → e.sent ≡ [] → e.sent ≡ foretold x c d.address (head_of m)
+    quiet : (n : ℕ) → m.command ≡ n → by_command n a b k ≡ [] → e.sent ≡ [] → e.sent ≡ foretold x c d.address (message_of (header_of m) [])
     quiet n is none nothing = nothing ∙ sym none ∙ by n is
 
     y : Client
     y = after_taking c rest x
 
-    go : Hears y c m e → e.sent ≡ foretold x c d.address (head_of m)
+    go : Hears y c m e → e.sent ≡ foretold x c d.address (message_of (header_of m) [])
     go (hears.Search is w here finds) =
         let same : w ≡ taken_on rest d = some_is w (taken_on rest d) (sym here ∙ found-changed x.circuits (taken_on rest) c d there) in
         finds-so x c rest m d there (found_at d.address m) (searched_by m.p2 x) e
@@ -284,40 +299,59 @@ no-steps x c o at none told sent new steps = absurd (subst (λ (z : Option Conne
 pub no-circuit : (x : Client) (c : Handle) → ◌≡◌ {A = Option ClientCircuit} None (under x.circuits c) → SendsNext x c []
 no-circuit x c none = no-steps x c (connection_at x c) refl (ap (λ (o : Option ClientCircuit). option_and_then (λ (d : ClientCircuit). d.connection) o) (sym none))
 
-pub no-head : (x : Client) (c : Handle) (d : ClientCircuit) → Some d ≡ under x.circuits c → HeadsFirst d.connection None → SendsNext x c []
-no-head x c d there heads told sent new steps =
-    go d.connection heads (subst (λ (z : Option Connection). StepsOn x c z (answer.Notices told) sent new) (ap (λ (o : Option ClientCircuit). option_and_then (λ (w : ClientCircuit). w.connection) o) (sym there)) steps)
-  where
-    go : (o : Option Connection) → HeadsFirst o None → StepsOn x c o (answer.Notices told) sent new → sent ≡ []
-    go None h s = absurd s
-    go (Some e) h t = absurd (let none : ◌≡◌ {A = Option Fields} None (Some (head_of t.m)) = h.whole t.m t.rest t.first in cc)
+-- a bad header begins no message
+none-begins : (bytes : List ℕ) (w : ends.Why) → IsBad bytes w → NoneBegins bytes
+none-begins bytes ends.Misaligned bad = bad-none bytes refusal.Misaligned bad
+none-begins bytes ends.TooLarge bad = bad-none bytes refusal.TooLarge bad
+none-begins bytes _ bad = absurd bad
 
--- a step sends what the head of its message tells
-sends-told : (x : Client) (c : Handle) (d : ClientCircuit) (from : Address) (head : Fields) → Some d ≡ under x.circuits c → from ≡ d.address → HeadsFirst d.connection (Some head)
-    → (told : List answer.Notice) (sent : List Sending) (new : Client) → ClientSteps x c (answer.Notices told) sent new → sent ≡ foretold x c from head
-sends-told x c d from head there at heads told sent new steps =
-    go d.connection heads (subst (λ (z : Option Connection). StepsOn x c z (answer.Notices told) sent new) (ap (λ (o : Option ClientCircuit). option_and_then (λ (w : ClientCircuit). w.connection) o) (sym there)) steps)
+pub no-message : (x : Client) (c : Handle) (d : ClientCircuit) (r : First) → Some d ≡ under x.circuits c → FirstAt d.connection r → ((h : Head) → r ≡ first.Message h → ⊥) → SendsNext x c []
+no-message x c d r there at other told sent new steps =
+    go d.connection r at other (subst (λ (z : Option Connection). StepsOn x c z (answer.Notices told) sent new) (ap (λ (o : Option ClientCircuit). option_and_then (λ (w : ClientCircuit). w.connection) o) (sym there)) steps)
   where
-    go : (o : Option Connection) → HeadsFirst o (Some head) → StepsOn x c o (answer.Notices told) sent new → sent ≡ foretold x c from head
+    go : (o : Option Connection) (r : First) → FirstAt o r → ((h : Head) → r ≡ first.Message h → ⊥) → StepsOn x c o (answer.Notices told) sent new → sent ≡ []
+    go None r h not s = absurd s
+    go (Some e) first.Gone h not t = absurd h
+    go (Some e) first.NeedBytes h not t = absurd (h.0 t.m t.first.0 t.rest t.first.1 t.first.2)
+    go (Some e) (first.Message k) h not t = absurd (not k refl)
+    go (Some e) (first.Bad w) h not t = absurd (none-begins e.link.input.bytes (why_is w) h t.m t.first.0 t.rest t.first.1 t.first.2)
+
+-- a complete message begins the bytes, and its header is read
+header-read : (e : Connection) (k : Head) (m : Fields) (rest : List ℕ) → IsWhole e.link.input.bytes k → TakesFirst e.link m rest → k.header ≡ header_of m
+header-read e k m rest whole (front, spells, begins) =
+    let found = one-again m front rest (one.Whole k) spells (subst (λ (b : List ℕ). IsOne b (one.Whole k)) begins whole) in
+    ap (λ (z : Head). z.header) (ap (head_in k) found.1) ∙ found.2
+  where
+    head_in : Head → One → Head
+    head_in z (one.Whole y) = y
+    head_in z r = z
+
+-- a step sends what the header of its message tells
+sends-told : (x : Client) (c : Handle) (d : ClientCircuit) (from : Address) (k : Head) → Some d ≡ under x.circuits c → from ≡ d.address → FirstAt d.connection (first.Message k)
+    → (told : List answer.Notice) (sent : List Sending) (new : Client) → ClientSteps x c (answer.Notices told) sent new → sent ≡ foretold x c from (message_of k.header [])
+sends-told x c d from k there at h told sent new steps =
+    go d.connection h (subst (λ (z : Option Connection). StepsOn x c z (answer.Notices told) sent new) (ap (λ (o : Option ClientCircuit). option_and_then (λ (w : ClientCircuit). w.connection) o) (sym there)) steps)
+  where
+    go : (o : Option Connection) → FirstAt o (first.Message k) → StepsOn x c o (answer.Notices told) sent new → sent ≡ foretold x c from (message_of k.header [])
     go None h s = absurd s
     go (Some e) h t =
         heard-sent x c t.rest d t.m (record { core = new; sent = sent; notices = told }) (sym there) t.hears
-        ∙ ap (foretold x c d.address) (sym (some_is head (head_of t.m) (h.whole t.m t.rest t.first)))
-        ∙ ap (λ (a : Address). foretold x c a head) (sym at)
+        ∙ ap (λ (z : Header). foretold x c d.address (message_of z [])) (sym (header-read e k t.m t.rest h.0 t.first))
+        ∙ ap (λ (a : Address). foretold x c a (message_of k.header [])) (sym at)
 
-pub sends-next : (x : Client) (c : Handle) (d : ClientCircuit) (from : Address) (head : Fields) (foretells : List Foretells) → Some d ≡ under x.circuits c → from ≡ d.address → HeadsFirst d.connection (Some head) → map sending_of foretells ≡ foretold x c from head → SendsNext x c foretells
-sends-next x c d from head foretells there at heads are told sent new steps = sends-told x c d from head there at heads told sent new steps ∙ sym are
+pub sends-next : (x : Client) (c : Handle) (d : ClientCircuit) (from : Address) (k : Head) (foretells : List Foretells) → Some d ≡ under x.circuits c → from ≡ d.address → FirstAt d.connection (first.Message k) → map sending_of foretells ≡ foretold x c from (message_of k.header []) → SendsNext x c foretells
+sends-next x c d from k foretells there at h are told sent new steps = sends-told x c d from k there at h told sent new steps ∙ sym are
 
-pub sends-some : (x : Client) (c : Handle) (d : ClientCircuit) (from : Address) (head : Fields) → Some d ≡ under x.circuits c → from ≡ d.address → HeadsFirst d.connection (Some head) → foretold x c from head ≢ [] → SendsSome x c
-sends-some x c d from head there at heads some told sent new steps none = some (sym (sends-told x c d from head there at heads told sent new steps) ∙ none)
+pub sends-some : (x : Client) (c : Handle) (d : ClientCircuit) (from : Address) (k : Head) → Some d ≡ under x.circuits c → from ≡ d.address → FirstAt d.connection (first.Message k) → foretold x c from (message_of k.header []) ≢ [] → SendsSome x c
+sends-some x c d from k there at h some told sent new steps none = some (sym (sends-told x c d from k there at h told sent new steps) ∙ none)
 
--- if a head was read, a message waits
-pub head-waits : (x : Client) (c : Handle) (d : ClientCircuit) (head : Fields) → Some d ≡ under x.circuits c → HeadsFirst d.connection (Some head) → NoneWaits x c → ⊥
-head-waits x c d head there heads none = go d.connection heads (ap (λ (o : Option ClientCircuit). option_and_then (λ (w : ClientCircuit). w.connection) o) (sym there))
+-- if a message was read, one waits
+pub message-waits : (x : Client) (c : Handle) (d : ClientCircuit) (k : Head) → Some d ≡ under x.circuits c → FirstAt d.connection (first.Message k) → NoneWaits x c → ⊥
+message-waits x c d k there h none = go d.connection h (ap (λ (o : Option ClientCircuit). option_and_then (λ (w : ClientCircuit). w.connection) o) (sym there))
   where
-    go : (o : Option Connection) → HeadsFirst o (Some head) → connection_at x c ≡ o → ⊥
-    go None h at = let no : ◌≡◌ {A = Option Fields} (Some head) None = h in cc
-    go (Some e) h at = let no : ◌≡◌ {A = Option Fields} (Some head) None = h.none (none e at) in cc
+    go : (o : Option Connection) → FirstAt o (first.Message k) → connection_at x c ≡ o → ⊥
+    go None h at = absurd h
+    go (Some e) h at = whole-some e.link.input.bytes k h.0 (none e at)
 
 -- what is told of the next step, or not
 pub tells-more : (x : Client) (c : Handle) (total : List Sending) (r : Result (Vec Foretells Global) AllocError) → ((foretells : List Foretells) → map sending_of foretells ≡ total → SendsNext x c foretells) → (total ≢ [] → SendsSome x c) → (NoneWaits x c → ⊥)

@@ -26,7 +26,6 @@ mod Sendings
 mod Aside
 mod Moments
 mod Ahead
-mod Asked
 mod Marked
 mod Passing
 mod Quieted
@@ -35,5 +34,6 @@ mod Prepared
 mod Rounds
 mod Alone
 mod Awaited
+mod InPlace
 mod Tried
 mod Foretold

@@ -1,5 +1,5 @@
 -- What is sent on a circuit after its mark is taken back.
-use Rattle.std.proofs.Common.{◌≡◌, ◌∙◌, ℕ, ◌+◌, ◌<◌, Bool, true, false, cond, List, [], ◌∷◌, ◌++◌, Option, Some, None, ap, get_or, length, option_map, refl, sym, take}
+use Rattle.std.proofs.Common.{◌≡◌, ◌∙◌, ℕ, ◌+◌, ◌<◌, true, false, List, [], ◌∷◌, ◌++◌, Option, Some, None, ap, get_or, length, option_map, refl, sym, take}
 use Rattle.std.specs.Prelude.{option_and_then}
 use Rattle.std.proofs.lemmas.List.{take_at, take_more}
 use Rattle.ca_text.specs.declared.command.Command.TheVariants as command
@@ -9,19 +9,16 @@ use Rattle.ca_link.specs.declared.keep.Keep.{Keep}
 use Rattle.ca_link.specs.declared.keep.Keep.TheVariants.{Close, Echo, Idle}
 use Rattle.ca_link.specs.declared.mark.Mark.{Mark}
 use Rattle.ca_link.specs.Link.{LinkState, kept, mark_of, noted, restored, with_sent}
-use Rattle.ca_search.specs.Searches.{Wanted}
 use Rattle.ca_wire.specs.Fields.{Fields}
 use Rattle.ca_wire.specs.Message.{spelled}
-use Rattle.ca_wire.specs.Messages.{header_only, search_request}
+use Rattle.ca_wire.specs.Messages.{header_only}
 use Rattle.ca_model.specs.Client.{Client, ClientCircuit, Connection, on_connection}
-use Rattle.ca_model.specs.ClientCalls.{is_over}
-use Rattle.ca_model.specs.ClientEnds.{Ticking, all_searched_on, echoes, of_circuit, searches_on, with_sending}
+use Rattle.ca_model.specs.ClientEnds.{Ticking, echoes}
 use Rattle.ca_client_core.specs.declared.marks.CircuitMark.{CircuitMark}
-use Rattle.ca_client_tables.specs.Ends.{with_messages, with_message}
+use Rattle.ca_client_tables.specs.Ends.{with_messages}
 use Rattle.ca_client_core.specs.Marks.{circuit_restored, mark_at, undone}
 use Rattle.ca_client_tables.specs.Marks.{end_restored, mark_by}
 use Rattle.ca_client_core.specs.Moments.{asks_in, is_echo, is_echo_due}
-use Rattle.ca_client_core.specs.NameSearches.{searched_all}
 use Rattle.ca_client_tables.specs.Silences.{echo_end, echo_in}
 use Rattle.ca_client_core.specs.Silences.{echoed}
 use Rattle.ca_client_tables.proofs.Circuits.{changed-same, changed-twice, this-same}
@@ -129,13 +126,3 @@ echoes-is c t due = go (under t.core.circuits c) refl
         ap (λ (cs : Table ClientCircuit). let y : Client = record t.core { circuits = cs } in y)
         (changed-twice t.core.circuits note (queue (header_only command.Echo ∷ [])) c d found
         ∙ changed-same t.core.circuits (λ (w : ClientCircuit). queue (header_only command.Echo ∷ []) (note w)) (echo_in t.core.moment) c d found (echo-in-one t.core.moment d d.connection refl asks))
-
--- ---- searches on a circuit are those of a tick
-
-pub asked-core : (c : Handle) (ws : List Wanted) (t : Ticking) → (all_searched_on ws t c).core ≡ searched_all c ws t.core
-asked-core c [] t = refl
-asked-core c (w ∷ ws) t = asked-core c ws (searches_on c t w) ∙ ap (searched_all c ws) (go (is_over t.core c))
-  where
-    go : (b : Bool) → (cond b t (with_sending (of_circuit c (search_request w.cid w.name)) t)).core ≡ cond b t.core (with_message c (search_request w.cid w.name) t.core)
-    go true = refl
-    go false = refl

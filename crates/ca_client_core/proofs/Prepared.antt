@@ -10,10 +10,12 @@ use Rattle.ca_model.specs.Answers as answer
 use Rattle.ca_model.specs.Client.{Client, ClientCircuit, disconnected, ended, later, without_circuit}
 use Rattle.ca_ids.specs.Table.{under}
 use Rattle.ca_model.specs.ClientEnds.{ClientTicks, Ticking, all_searched_on, circuits_ticked, due, echoes, falls_silent, is_name_connected, packed, searches_made, to_server}
+use Rattle.ca_client_core.specs.declared.for_histories.Sending.{Sending as Noted}
 use Rattle.ca_client_core.specs.declared.ticking.Left.{Left}
 use Rattle.ca_client_core.specs.declared.ticking.Plan.{Plan}
 use Rattle.ca_client_tables.specs.Ahead.{Once, due_after, is_in}
-use Rattle.ca_client_core.specs.Moments.{EchoIsDue, EchoesAll, SearchesAll, all_echoed, all_ended, all_searched, echo_step, end_step, is_echo_due, is_silent, silent_of}
+use Rattle.ca_client_core.specs.Foretold.{IsFar, Notes}
+use Rattle.ca_client_core.specs.Moments.{EchoIsDue, EchoesAll, all_echoed, all_ended, all_searched, echo_step, end_step, is_echo_due, is_silent, silent_of}
 use Rattle.ca_client_core.specs.Ticked.{CarriesOut, IsPlanned, LacksMemory, Plans, Reports, circuits_of, lefts_of, made_of, notices_of}
 use Rattle.ca_client_core.proofs.Ahead.{due-so, echo-sought}
 use Rattle.ca_client_core.proofs.Aside.{ended-gone, ended-is, ended_but}
@@ -105,15 +107,18 @@ packs-some f (d ∷ ds) ws is some none =
 
 -- ---- a plan
 
-pub plans-so : (x y z : Client) (p : Plan) (ws : List Wanted) (packs : List (List ℕ)) → length x.channels ≤ arena_slots → Once x.searches → EchoesAll x y → p.ends.items ≡ silent_of y y.order → p.closings.items ≡ [] → ws ≡ due_after (is_in p.ends.items) y.moment y.channels y.searches → packs ≡ packed [] ws → p.datagrams.items ≡ flat_map (to_server packs) y.servers → SearchesAll ws y z → length p.ends.items + vec_len p.closings ≤ vec_capacity p.closings → Plans x p z
-plans-so x y z p ws packs few once echoes ends none wanted packs-are datagrams searches room = (planned, room)
+pub plans-so : (x y z : Client) (p : Plan) (ss : List Noted) (ws : List Wanted) (packs : List (List ℕ)) → length x.channels ≤ arena_slots → Once x.searches → EchoesAll x y → Notes (all_echoed x.order) x [] y ss → p.ends.items ≡ silent_of y y.order → p.closings.items ≡ [] → ws ≡ due_after (is_in p.ends.items) y.moment y.channels y.searches → packs ≡ packed [] ws
+    → p.datagrams.items ≡ flat_map (to_server packs) y.servers → Notes (all_searched ws y.order) y ss z p.sent.items → length p.ends.items + vec_len p.closings ≤ vec_capacity p.closings → Plans x p z
+plans-so x y z p ss ws packs few once echoes first ends none wanted packs-are datagrams searches room = (planned, room)
   where
-    planned : (t : Ticking) → t.core ≡ x → IsPlanned t p z
-    planned t is =
+    planned : (t : Ticking) → t.core ≡ x → t.sent ≡ [] → IsPlanned t p z
+    planned t is empty =
         let one : Ticking = all_echoed t.core.order t in
         let so : y ≡ one.core = echoed-as x y t echoes is in
         let all : ws ≡ due (circuits_of t).core = wanted ∙ foreseen x y t p.ends.items few once echoes is ends in
         let order : y.order ≡ t.core.order = ap (λ (v : Client). v.order) so ∙ echo-order t.core.order t in
+        let far : IsFar one y ss = subst (λ (cs : List Handle). IsFar (all_echoed cs t) y ss) (ap (λ (v : Client). v.order) (sym is)) (first t (is, empty)) in
+        let last = searches one far in
         record {
           ends = ends ∙ same-silent x y t echoes is;
           none = none;
@@ -121,10 +126,8 @@ plans-so x y z p ws packs few once echoes ends none wanted packs-are datagrams s
               datagrams
               ∙ ap (λ (ps : List (List ℕ)). flat_map (to_server ps) y.servers) (packs-are ∙ ap (packed []) all)
               ∙ ap (flat_map (to_server (packed [] (due (circuits_of t).core)))) (ap (λ (v : Client). v.servers) so ∙ servers-echoed t.core.order t);
-          core =
-              searches one (sym so)
-              ∙ ap (λ (vs : List Wanted). (all_searched vs y.order one).core) all
-              ∙ ap (λ (cs : List Handle). (all_searched (due (circuits_of t).core) cs one).core) order;
+          core = sym last.0 ∙ (λ i. (all_searched (all i) (order i) one).core);
+          sent = sym last.1 ∙ (λ i. (all_searched (all i) (order i) one).sent);
         }
 
 -- ---- the whole
@@ -132,7 +135,7 @@ plans-so x y z p ws packs few once echoes ends none wanted packs-are datagrams s
 pub tick-so : (x w y z : Client) (now m : ℕ) (p : Plan) (a : answer.Ticked) → m ≡ later now x → w ≡ record x { moment = m } → Plans w p y → CarriesOut y p a z → (sent : List Sending) × ClientTicks x now (Ok a) sent z
 tick-so x w y z now m p a at begun plans carries =
     let start : Ticking = begins (record x { moment = later now x }) in
-    let planned : IsPlanned start p y = plans.0 start (sym (begun ∙ ap (λ (n : ℕ). let v : Client = record x { moment = n } in v) at)) in
+    let planned : IsPlanned start p y = plans.0 start (sym (begun ∙ ap (λ (n : ℕ). let v : Client = record x { moment = n } in v) at)) refl in
     let t : Ticking = circuits_ticked now x in
     let ws : List Wanted = due t.core in
     let mid : Ticking = all_searched ws x.order (all_echoed x.order start) in

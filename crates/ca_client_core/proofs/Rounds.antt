@@ -14,9 +14,8 @@ use Rattle.ca_client_core.specs.declared.marks.CircuitMark.{CircuitMark}
 use Rattle.ca_client_tables.specs.Ends.{with_messages}
 use Rattle.ca_client_core.specs.Marks.{circuit_restored, mark_at, undone}
 use Rattle.ca_client_core.specs.Moments.{EchoIsDue, all_echoed, all_searched, echo_step, is_echo_due, is_searched_on, search_step}
-use Rattle.ca_client_core.specs.NameSearches.{searched_all}
 use Rattle.ca_client_core.specs.Silences.{echoed}
-use Rattle.ca_client_core.proofs.Marked.{asked-core, echoes-is, restored-echo, restored-messages, undone-more}
+use Rattle.ca_client_core.proofs.Marked.{echoes-is, restored-echo, restored-messages, undone-more}
 use Rattle.ca_client_core.proofs.Moments.{echo-order, echo-some}
 use Rattle.ca_client_core.proofs.Prepared.{begins}
 use Rattle.ca_client_tables.proofs.Queued.{messages-none}
@@ -85,14 +84,6 @@ search-not ws x c t off is =
     sym is
     ∙ ap (λ (b : Bool). (cond b (all_searched_on ws t c) t).core) (sym (ap (λ (y : Client). is_searched_on y c) is ∙ off))
 
-pub search-now : (ws : List Wanted) (x y : Client) (c : Handle) (t : Ticking) → is_searched_on x c ≡ true → y ≡ searched_all c ws x → t.core ≡ x → y ≡ (search_step ws t c).core
-search-now ws x y c t on does is =
-    let now : is_searched_on t.core c ≡ true = ap (λ (z : Client). is_searched_on z c) is ∙ on in
-    does
-    ∙ ap (searched_all c ws) (sym is)
-    ∙ sym (asked-core c ws t)
-    ∙ ap (λ (b : Bool). (cond b (all_searched_on ws t c) t).core) (sym now)
-
 -- ---- ECHOs
 
 abbrev pub EchoedFirst : List Handle → Client → Client → Type 0
@@ -115,9 +106,6 @@ echo-lacks i c x y so at due t is =
 
 -- ---- searches
 
-abbrev pub SearchedFirst : List Wanted → List Handle → Client → Client → Type 0
-SearchedFirst ws cs x y = (t : Ticking) → t.core ≡ x → y ≡ (all_searched ws cs t).core
-
 order-searched : (c : Handle) (ws : List Wanted) (t : Ticking) → (all_searched_on ws t c).core.order ≡ t.core.order
 order-searched c [] t = refl
 order-searched c (w ∷ ws) t = order-searched c ws (searches_on c t w) ∙ go (is_over t.core c)
@@ -133,15 +121,6 @@ search-order ws (c ∷ cs) t = search-order ws cs (search_step ws t c) ∙ go (i
     go : (b : Bool) → (cond b (all_searched_on ws t c) t).core.order ≡ t.core.order
     go true = order-searched c ws t
     go false = refl
-
-pub searched-order : (ws : List Wanted) (cs : List Handle) (x y : Client) → SearchedFirst ws cs x y → y.order ≡ x.order
-searched-order ws cs x y so = ap (λ (z : Client). z.order) (so (begins x) refl) ∙ search-order ws cs (begins x)
-
-pub searched-next : (ws : List Wanted) (i : ℕ) (c : Handle) (x y z : Client) → SearchedFirst ws (take i x.order) x y → slice_get y.order i ≡ Some c → ((t : Ticking) → t.core ≡ y → z ≡ (search_step ws t c).core) → SearchedFirst ws (take (i + 1) x.order) x z
-searched-next ws i c x y z so at does t is =
-    let found : slice_get x.order i ≡ Some c = ap (λ (cs : List Handle). slice_get cs i) (sym (searched-order ws (take i x.order) x y so)) ∙ at in
-    does (all_searched ws (take i x.order) t) (sym (so t is))
-    ∙ ap (λ (u : Ticking). u.core) (sym (fold-next (search_step ws) x.order i c t found))
 
 -- no search is sent on no circuit
 pub none-searched : (cs : List Handle) (t : Ticking) → all_searched [] cs t ≡ t

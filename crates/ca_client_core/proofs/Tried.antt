@@ -1,8 +1,7 @@
 -- What a moment makes a client send is what it sent as it was tried out.
-use Rattle.std.proofs.Common.{◌≡◌, ◌≢◌, ◌∙◌, ℕ, ◌+◌, ◌≤◌, Bool, true, false, cond, List, [], ◌∷◌, ◌++◌, Some, Err, ap, fold, length, map, refl, subst, sym, take}
+use Rattle.std.proofs.Common.{◌≡◌, ◌≢◌, ◌∙◌, ℕ, ◌+◌, Bool, true, false, cond, List, [], ◌∷◌, ◌++◌, Some, Err, ap, fold, map, refl, subst, sym, take}
 use Rattle.std.specs.Prelude.{IfOk, OnErr, Ok, Result, slice_get}
 use Rattle.std.proofs.lemmas.List.{map-append}
-use Rattle.ca_text.specs.Limits.{arena_slots}
 use Rattle.ca_text.specs.declared.refusal.Refusal.TheVariants as refusal
 use Rattle.ca_text.specs.declared.command.Command.TheVariants as command
 use Rattle.ca_arena.specs.declared.handle.Handle.{Handle}
@@ -13,17 +12,17 @@ use Rattle.ca_model.specs.Answers as answer
 use Rattle.ca_model.specs.Client.{Client, later}
 use Rattle.ca_model.specs.ClientCalls.{is_over}
 use Rattle.ca_model.specs.ClientEnds.{ClientTicks, Ticking, all_searched_on, circuits_ticked, due, echoes, of_circuit, searches_on, with_sending}
-use Rattle.ca_client_tables.specs.Ahead.{Once, due_after, is_in}
 use Rattle.ca_client_tables.specs.Ends.{with_messages, with_message}
 use Rattle.ca_client_tables.proofs.Queued.{messages-none, messages-twice}
 use Rattle.ca_client_core.specs.declared.for_histories.Sending.{Sending}
 use Rattle.ca_client_core.specs.declared.for_moments.Foretold.{Foretold}
+use Rattle.ca_client_core.specs.declared.ticking.Plan.{Plan}
 use Rattle.ca_client_core.specs.Foretold.{AreSome, Foretells, IsFar, IsTried, Notes, Tries}
 use Rattle.ca_client_core.specs.ForHistories.{sending_of}
-use Rattle.ca_client_core.specs.Moments.{EchoesAll, all_echoed, all_ended, all_searched, echo_step, is_echo_due, is_searched_on, is_silent, search_step, silent_of}
-use Rattle.ca_client_core.specs.Ticked.{LacksMemory, circuits_of}
-use Rattle.ca_client_core.proofs.Moments.{calm-echoed, echo-order, echoed-heard, ended-sent, ends-some, made-so, silent-alone, ticked-so}
-use Rattle.ca_client_core.proofs.Prepared.{begins, echoed-as, foreseen, same-silent}
+use Rattle.ca_client_core.specs.Moments.{all_echoed, all_ended, all_searched, echo_step, is_echo_due, is_searched_on, is_silent, search_step, silent_of}
+use Rattle.ca_client_core.specs.Ticked.{IsPlanned, LacksMemory, Plans, circuits_of}
+use Rattle.ca_client_core.proofs.Moments.{calm-echoed, echoed-heard, ended-sent, ends-some, made-so, silent-alone, ticked-so}
+use Rattle.ca_client_core.proofs.Prepared.{begins}
 use Rattle.ca_client_core.proofs.Rounds.{echo-not, fold-next, none-searched, search-order}
 
 -- ---- what was noted
@@ -113,20 +112,20 @@ none-noted ws cs x ss none t far = subst (λ (u : Ticking). IsFar u x ss) (sym (
 
 -- ---- the whole
 
-pub tried-so : (x y z : Client) (f : Foretold) (ss : List Sending) (ends : List Handle) (ws : List Wanted) → length x.channels ≤ arena_slots → Once x.searches → EchoesAll x y → Notes (all_echoed x.order) x [] y ss → ends ≡ silent_of y y.order
-    → ws ≡ due_after (is_in ends) y.moment y.channels y.searches → Notes (all_searched ws y.order) y ss z f.sent.items → (f.ends ≡ true → ends ≢ []) → (f.ends ≡ false → ends ≡ []) → Tries x f
-tried-so x y z f ss ends ws few once echoes first silent wanted searches some none t is empty =
-    let one : Ticking = all_echoed t.core.order t in
-    let so : y ≡ one.core = echoed-as x y t echoes is in
-    let all : ws ≡ due (circuits_of t).core = wanted ∙ foreseen x y t ends few once echoes is silent in
-    let order : y.order ≡ t.core.order = ap (λ (v : Client). v.order) so ∙ echo-order t.core.order t in
-    let far : IsFar one y ss = subst (λ (cs : List Handle). IsFar (all_echoed cs t) y ss) (ap (λ (v : Client). v.order) (sym is)) (first t (is, empty)) in
-    let last = searches one far in
-    let same : silent_of y y.order ≡ silent_of t.core t.core.order = same-silent x y t echoes is in
+-- some, or none
+pub are-some : (hs : List Handle) (b : Bool) → AreSome hs b → (b ≡ true → hs ≢ []) × (b ≡ false → hs ≡ [])
+are-some hs true is = (λ e. is, λ e. absurd (let bad : true ≡ false = e in cc))
+are-some hs false is = (λ e. absurd (let bad : false ≡ true = e in cc), λ e. is)
+
+-- a plan tells what is sent, and whether an end is to end
+pub tried-so : (x y : Client) (p : Plan) (f : Foretold) → f.sent.items ≡ p.sent.items → AreSome p.ends.items f.ends → Plans x p y → Tries x f
+tried-so x y p f same some plans t is empty =
+    let planned : IsPlanned t p y = plans.0 t is empty in
+    let either = are-some p.ends.items f.ends some in
     record {
-      sent = sym last.1 ∙ (λ i. (all_searched (all i) (order i) one).sent);
-      some = λ on e. some on (silent ∙ same ∙ e);
-      none = λ off. sym (silent ∙ same) ∙ none off;
+      sent = ap (map sending_of) same ∙ planned.sent;
+      some = λ on none. either.0 on (planned.ends ∙ none);
+      none = λ off. sym planned.ends ∙ either.1 off;
     }
 
 -- no end is to end
@@ -176,8 +175,3 @@ ok-says P Q (Err e) says is = is
 pub err-says : {A E : Type 0} (P Q : Type 0) (r : Result A E) → (P → Q) → OnErr r P → OnErr r Q
 err-says P Q (Ok a) says is = is
 err-says P Q (Err e) says is = says is
-
--- some, or none
-pub are-some : (hs : List Handle) (b : Bool) → AreSome hs b → (b ≡ true → hs ≢ []) × (b ≡ false → hs ≡ [])
-are-some hs true is = (λ e. is, λ e. absurd (let bad : true ≡ false = e in cc))
-are-some hs false is = (λ e. absurd (let bad : false ≡ true = e in cc), λ e. is)

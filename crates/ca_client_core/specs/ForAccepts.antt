@@ -1,22 +1,12 @@
 -- Vocabulary: what a recorder of histories asks of a client before a circuit is connected.
 use Rattle.std.specs.Prelude.{ℕ, ◌++◌, List, [], Option, Some, None, filter_map, if◌then◌else◌, map}
-use Rattle.std.specs.Prelude.{option_and_then, option_to_list, slice_get}
+use Rattle.std.specs.Prelude.{option_to_list}
 use Rattle.ca_arena.specs.declared.handle.Handle.{Handle}
-use Rattle.ca_ids.specs.Table.{under}
 use Rattle.ca_model.specs.Answers.{Sending}
 use Rattle.ca_model.specs.Client.{Channel, Client, ClientCircuit, is_on_in}
-use Rattle.ca_model.specs.ClientCalls.{WantedCircuit, wanted_as}
 use Rattle.ca_model.specs.ClientEnds.{creations, is_connecting, of_circuit, set_up, unconnected}
 use Rattle.ca_model.specs.Hears.{create_sent}
 use Rattle.ca_client_tables.specs.Connecting.{greeting}
-
--- the circuit of this handle, if it is wanted and not connected
-abbrev pub wanted_circuit : Client → Handle → Option WantedCircuit
-wanted_circuit x c = option_and_then (wanted_as c) (under x.circuits c)
-
--- the circuit at this place of their order, if it is wanted and not connected
-abbrev pub wanted_in_place : Client → ℕ → Option WantedCircuit
-wanted_in_place x place = option_and_then (wanted_circuit x) (slice_get x.order place)
 
 -- what is sent once this circuit is connected, if it is not yet: the set-up, and then the
 -- CREATE_CHANs of the channels that wait for it

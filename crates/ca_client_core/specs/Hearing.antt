@@ -4,8 +4,10 @@ use Rattle.std.specs.declared.alloc.AllocError.{AllocError}
 use Rattle.ca_arena.specs.declared.handle.Handle.{Handle}
 use Rattle.ca_dbr.specs.declared.value.Outcome.{Outcome}
 use Rattle.ca_dbr.specs.declared.value.Outcome.TheVariants as outcome
+use Rattle.ca_wire.specs.declared.header.Header.{Header}
 use Rattle.ca_wire.specs.Fields.{Fields}
 use Rattle.ca_requests.specs.Calls.{HasImage}
+use Rattle.ca_requests.specs.Meaning.{message_of}
 use Rattle.ca_requests.specs.Requests.{Request, answered_by}
 use Rattle.ca_requests.specs.Requests as request
 use Rattle.ca_model.specs.Answers.{Notice}
@@ -13,7 +15,7 @@ use Rattle.ca_model.specs.Answers as notice
 use Rattle.ca_model.specs.Client.{Client}
 use Rattle.ca_model.specs.Client as client
 use Rattle.ca_model.specs.Ends.{Address}
-use Rattle.ca_model.specs.Hears.{Answers, Effect, Finds, doing}
+use Rattle.ca_model.specs.Hears.{Answers, Effect, Finds, created, doing, left, rights_told}
 use Rattle.ca_client_tables.specs.declared.channel.Phase.{Phase}
 use Rattle.ca_client_tables.specs.Forms.{phase_of}
 use Rattle.ca_client_tables.specs.Finding.{DoesSome}
@@ -21,6 +23,16 @@ use Rattle.ca_client_tables.specs.Finding.{DoesSome}
 -- a channel that was found on a circuit
 abbrev pub found_as : Handle × Phase → Handle × client.Phase
 found_as e = (e.0, phase_of e.1)
+
+-- what a message with this header does to its channel: ACCESS_RIGHTS, CREATE_CHAN, SERVER_DISCONN
+abbrev pub rights_by : Client → Handle → Header → Effect
+rights_by x c h = rights_told x c (message_of h []) (client.channel_on x c h.p1)
+
+abbrev pub created_by : Client → Handle → Header → Effect
+created_by x c h = created x c (message_of h []) (client.channel_on x c h.p1)
+
+abbrev pub left_by : Client → Handle → Header → Effect
+left_by x c h = left x c (client.channel_on x c h.p1)
 
 -- the notice of a request that is complete
 abbrev pub completed : Option (Handle × Outcome) → List Notice

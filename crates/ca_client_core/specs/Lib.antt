@@ -17,10 +17,10 @@ pub mod Clearing
 pub mod Moments
 pub mod Marks
 pub mod Silences
-pub mod NameSearches
 pub mod Quiet
 pub mod Replying
 pub mod Ticked
+pub mod Wanted
 pub mod ForAccepts
 pub mod ForDatagrams
 pub mod Foretold

@@ -73,7 +73,3 @@ EchoesAll x y = (t : Ticking) → t.core ≡ x → y ≡ (all_echoed x.order t).
 -- One is due.
 abbrev pub EchoIsDue : Client → Type 0
 EchoIsDue x = (t : Ticking) → t.core ≡ x → (all_echoed x.order t).sent ≢ []
-
--- These searches went out on the circuits of name servers.
-abbrev pub SearchesAll : List Wanted → Client → Client → Type 0
-SearchesAll ws x y = (t : Ticking) → t.core ≡ x → y ≡ (all_searched ws x.order t).core

@@ -6,6 +6,7 @@ use Rattle.ca_search.specs.Searches.{passed}
 use Rattle.ca_model.specs.Answers as answer
 use Rattle.ca_model.specs.Client.{Client}
 use Rattle.ca_model.specs.ClientEnds.{Ticking, due, packed, ticks, to_server}
+use Rattle.ca_client_core.specs.ForHistories.{sending_of}
 use Rattle.ca_client_core.specs.Moments.{all_echoed, all_ended, all_searched, silent_of}
 use Rattle.ca_client_core.specs.declared.ticking.Left.{Left}
 use Rattle.ca_client_core.specs.declared.ticking.Plan.{Plan}
@@ -37,10 +38,12 @@ pub record IsPlanned (t : Ticking) (p : Plan) (y : Client) : Type 0 where
       ≡ flat_map (to_server (packed [] (due (circuits_of t).core))) t.core.servers
   pub core : y
       ≡ (all_searched (due (circuits_of t).core) t.core.order (all_echoed t.core.order t)).core
+  pub sent : map sending_of p.sent.items
+      ≡ (all_searched (due (circuits_of t).core) t.core.order (all_echoed t.core.order t)).sent
 
 abbrev pub Plans : Client → Plan → Client → Type 0
 Plans x p y =
-    ((t : Ticking) → t.core ≡ x → IsPlanned t p y)
+    ((t : Ticking) → t.core ≡ x → t.sent ≡ [] → IsPlanned t p y)
     × (length p.ends.items + vec_len p.closings ≤ vec_capacity p.closings)
 
 -- Something takes memory.

@@ -1,13 +1,12 @@
 //! What a client makes of an ACCESS_RIGHTS.
-ghost use Rattle.std.specs.Prelude.{[], ◌≡◌};
+ghost use Rattle.std.specs.Prelude.{◌≡◌};
 ghost use Rattle.ca_text.specs.Command.{command_number};
 ghost use Rattle.ca_text.specs.declared.command.Command.TheVariants.{AccessRights};
-ghost use Rattle.ca_requests.specs.Meaning.{message_of};
-ghost use Rattle.ca_model.specs.Client.{channel_on};
-ghost use Rattle.ca_model.specs.Hears.{becomes, rights_told};
+ghost use Rattle.ca_model.specs.Hears.{becomes};
 ghost use Rattle.ca_client_tables.specs.declared.first.First.TheVariants.{Message};
 ghost use Rattle.ca_client_core.specs.Dispatch.{HearsFirst};
 ghost use Rattle.ca_client_core.specs.First.{FirstOn};
+ghost use Rattle.ca_client_core.specs.Hearing.{rights_by};
 
 use crate::client::ClientCore;
 use crate::notices::Notices;
@@ -34,12 +33,7 @@ impl ClientCore {
 
     // The rights of a channel that is being created, or is live.
     fn hear_rights(&mut self, circuit: Handle, header: &Header)
-        ensures { becomes self.new
-            ≡ rights_told
-            self.old
-            circuit
-            (message_of header.now [])
-            (channel_on self.old circuit header.now.p1) }
+        ensures { becomes self.new ≡ rights_by self.old circuit header.now }
     {
         let Some((channel, phase)) = self.channel_on(circuit, header.p1) else {
             return;

@@ -4,13 +4,13 @@ ghost use Rattle.ca_text.specs.Command.{command_number};
 ghost use Rattle.ca_text.specs.declared.command.Command.TheVariants.{CreateChannel};
 ghost use Rattle.ca_model.specs.Client as client;
 ghost use Rattle.ca_requests.specs.Meaning.{message_of};
-ghost use Rattle.ca_model.specs.Client.{channel_on, out_bytes};
-ghost use Rattle.ca_model.specs.Hears.{created, native_in};
+ghost use Rattle.ca_model.specs.Client.{out_bytes};
+ghost use Rattle.ca_model.specs.Hears.{native_in};
 ghost use Rattle.ca_client_tables.specs.Forms.{native_of};
 ghost use Rattle.ca_client_tables.specs.declared.first.First.TheVariants.{Message};
 ghost use Rattle.ca_client_core.specs.Dispatch.{HearsFirst};
 ghost use Rattle.ca_client_core.specs.First.{FirstOn};
-ghost use Rattle.ca_client_core.specs.Hearing.{HasEffect};
+ghost use Rattle.ca_client_core.specs.Hearing.{HasEffect, created_by};
 ghost use Rattle.ca_client_tables.specs.Ends.{cut_back, with_message, with_messages};
 ghost use Rattle.ca_client_core.specs.Again.{add_message, add_messages, dooming, living};
 ghost use Rattle.ca_client_core.specs.Again.{subscribed_again};
@@ -19,11 +19,12 @@ ghost use Rattle.ca_client_core.specs.Turns.{MayTurn};
 use crate::client::ClientCore;
 use crate::notice::Notice;
 use crate::notices::Notices;
+use crate::subscribing::add_message;
 use ca_arena::Handle;
 use ca_client_tables::{Native, Phase};
 use ca_ids::WireId;
 use ca_monitor::Subscription;
-use ca_wire::{Cid, Head, Header, Ioid, Sid, Wanted, clear_request, event_add_request};
+use ca_wire::{Cid, Head, Header, Sid, clear_request};
 use std::alloc::AllocError;
 
 impl ClientCore {
@@ -44,15 +45,7 @@ impl ClientCore {
     // The channel is live, and is subscribed to again under the same ids; one that its caller
     // cleared meanwhile is cleared now.
     fn hear_created(&mut self, circuit: Handle, header: &Header) -> Result<Notices, AllocError>
-        ensures { HasEffect
-            self.old
-            (created
-            self.old
-            circuit
-            (message_of header.now [])
-            (channel_on self.old circuit header.now.p1))
-            result
-            self.new }
+        ensures { HasEffect self.old (created_by self.old circuit header.now) result self.new }
     {
         let Some((channel, phase)) = self.channel_on(circuit, header.p1) else {
             return Ok(Notices::none(self.alloc));
@@ -160,16 +153,8 @@ impl ClientCore {
             ≡ with_message circuit (add_message sid standing) self.old) }
         ensures err { OnErr result (self.new ≡ self.old) }
     {
-        let (subscription, found) = standing;
-        let wanted = Wanted {
-            sid: Sid::new(sid),
-            id: Ioid::new(WireId::of(subscription).number()),
-            data_type: found.data_type,
-            count: found.count,
-        };
-        let message = event_add_request(self.alloc, wanted, found.mask)?;
-        self.queue(circuit, &message)?;
-        Ok(())
+        let message = add_message(self.alloc, sid, standing)?;
+        self.queue(circuit, &message)
     }
 }
 

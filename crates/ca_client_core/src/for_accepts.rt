@@ -3,41 +3,17 @@ ghost use Rattle.std.specs.Prelude.{◌≡◌, ◌≢◌, ◌<◌, ◌≤◌, �
 ghost use Rattle.ca_text.specs.Limits.{priority_limit};
 ghost use Rattle.ca_arena.specs.Arena.{place_at};
 ghost use Rattle.ca_ids.specs.Table.{held, held_at};
-ghost use Rattle.ca_model.specs.ClientEnds as answer;
 ghost use Rattle.ca_client_core.specs.ForAccepts.{connecting_sent, creations_among};
-ghost use Rattle.ca_client_core.specs.ForAccepts.{creations_of_one, greeting_sent, wanted_in_place};
+ghost use Rattle.ca_client_core.specs.ForAccepts.{creations_of_one, greeting_sent};
 ghost use Rattle.ca_client_core.specs.ForHistories.{sending_of};
 
 use crate::client::ClientCore;
-use crate::for_histories::{Aim, Sending};
+use crate::for_histories::{Aim, Sending, of_circuit};
 use ca_arena::Handle;
-use ca_client_tables::{Channels, WantedCircuit};
+use ca_client_tables::Channels;
 use ca_text::{Command, PAYLOAD_LIMIT};
 use ca_wire::{Message, Priority, name_request, version_request};
 use std::alloc::{AllocError, Global};
-
-/// How many circuits are wanted or connected.
-pub fn circuits_listed(core: &ClientCore) -> usize
-    ensures { result ≡ length core.now.order }
-{
-    core.circuits_listed()
-}
-
-/// The circuit at this place of their order, if it is wanted and not connected.
-pub fn wanted_at(core: &ClientCore, place: usize) -> Option<WantedCircuit>
-    requires { place < length core.now.order }
-    ensures { result ≡ wanted_in_place core.now place }
-{
-    let circuit = core.listed_at(place);
-    match core.circuits.by_handle(circuit) {
-        Some(found) if found.connection.is_none() => Some(WantedCircuit {
-            circuit,
-            address: found.address,
-            priority: found.priority,
-        }),
-        _ => None,
-    }
-}
 
 /// What the client sends once this circuit is connected: its set-up, and then the CREATE_CHAN of
 /// each channel that waits for it, in order of index. Nothing, if it is not wanted or is connected.
@@ -86,17 +62,6 @@ fn list_set_up(
     sent.push(of_circuit(circuit, client_name))?;
     sent.push(of_circuit(circuit, host_name))?;
     Ok(())
-}
-
-// A message of the circuit as a whole.
-fn of_circuit(circuit: Handle, message: Message) -> Sending
-    ensures { sending_of result ≡ answer.of_circuit circuit message }
-{
-    Sending {
-        circuit,
-        message,
-        aim: Aim::OfCircuit,
-    }
 }
 
 // Puts the CREATE_CHAN of each channel that waits for this circuit after what is

@@ -1,9 +1,12 @@
 //! Calls for a recorder of histories. No client needs them.
 ghost use Rattle.std.specs.Prelude.{◌≡◌};
+ghost use Rattle.ca_model.specs.ClientEnds.{of_circuit};
 ghost use Rattle.ca_client_core.specs.ForHistories.{AsksFor, AsksWide, LivesOn, TellsNext, flow_at};
+ghost use Rattle.ca_client_core.specs.ForHistories.{sending_of};
 
 use crate::client::ClientCore;
 use ca_arena::Handle;
+use ca_client_tables::First;
 use ca_text::{Command, Refusal};
 use ca_wire::Message;
 use std::alloc::AllocError;
@@ -28,6 +31,17 @@ pub struct Sending {
     pub circuit: Handle,
     pub message: Message,
     pub aim: Aim,
+}
+
+// A message of the circuit as a whole.
+pub(crate) fn of_circuit(circuit: Handle, message: Message) -> Sending
+    ensures { sending_of result ≡ of_circuit circuit message }
+{
+    Sending {
+        circuit,
+        message,
+        aim: Aim::OfCircuit,
+    }
 }
 
 /// Where a channel is live: on this circuit, under this SID, with n elements at most.
@@ -109,5 +123,11 @@ pub fn flow_of(core: &ClientCore, circuit: Handle, more: bool) -> Option<Command
 pub fn sent_by_step(core: &ClientCore, circuit: Handle) -> Result<Vec<Sending>, AllocError>
     ensures { TellsNext core.now circuit result }
 {
-    core.sent_by_next(circuit)
+    let Some(found) = core.circuits.by_handle(circuit) else {
+        return Ok(Vec::new(core.alloc));
+    };
+    let First::Message(head) = found.first() else {
+        return Ok(Vec::new(core.alloc));
+    };
+    core.sent_by(circuit, found.address, &head.header)
 }

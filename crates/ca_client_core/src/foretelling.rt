@@ -1,66 +1,54 @@
 //! What the next message of a circuit will make a client send, told before it is read.
 ghost use Rattle.std.specs.Prelude.{◌≡◌, ◌≢◌, ◌∷◌, [], IfOk, OnErr, map};
-ghost use Rattle.ca_model.specs.Client.{channel_on};
+ghost use Rattle.ca_requests.specs.Meaning.{message_of};
 ghost use Rattle.ca_model.specs.ClientCalls.{clear_sent, event_add_sent};
-ghost use Rattle.ca_model.specs.Hears.{created, event_adds, left};
-ghost use Rattle.ca_client_core.specs.ForHistories.{TellsNext, sending_of};
+ghost use Rattle.ca_model.specs.Hears.{event_adds};
+ghost use Rattle.ca_client_core.specs.ForHistories.{sending_of};
 ghost use Rattle.ca_client_core.specs.Foretelling.{adds_sent, foretold, found_sent};
+ghost use Rattle.ca_client_core.specs.Hearing.{created_by, left_by};
 
 use crate::client::ClientCore;
 use crate::for_histories::{Aim, Sending};
+use crate::subscribing::add_message;
 use ca_arena::Handle;
 use ca_client_tables::{Address, Creation, Phase, creation_by};
 use ca_ids::WireId;
 use ca_monitor::Subscription;
 use ca_text::Command;
-use ca_wire::{Cid, Ioid, Message, Sid, Wanted, clear_request, event_add_request};
+use ca_wire::{Cid, Header, Sid, clear_request};
 use std::alloc::{AllocError, Global};
 
 impl ClientCore {
-    // What the next message of a circuit makes the client send, if one waits. Only a message
-    // to send takes memory.
-    pub(crate) fn sent_by_next(&self, circuit: Handle) -> Result<Vec<Sending>, AllocError>
-        ensures { TellsNext self.now circuit result }
-    {
-        let Some(found) = self.circuits.by_handle(circuit) else {
-            return Ok(Vec::new(self.alloc));
-        };
-        let Some(head) = found.first_head(self.alloc) else {
-            return Ok(Vec::new(self.alloc));
-        };
-        self.sent_by(circuit, found.address, &head)
-    }
-
-    // What this message makes the client send, on a circuit to this address. Its
+    // What a message with this header makes the client send, on a circuit to this address. Its
     // payload plays no part.
-    fn sent_by(
+    pub(crate) fn sent_by(
         &self,
         circuit: Handle,
         from: Address,
-        head: &Message,
+        header: &Header,
     ) -> Result<Vec<Sending>, AllocError>
         ensures ok { IfOk result (λ sent. map sending_of sent.items
-            ≡ foretold self.now circuit from head.now) }
-        ensures some { OnErr result (foretold self.now circuit from head.now ≢ []) }
+            ≡ foretold self.now circuit from (message_of header.now [])) }
+        ensures some { OnErr result
+            (foretold self.now circuit from (message_of header.now []) ≢ []) }
     {
-        let command = head.command();
-        if command == Command::Search.number() {
-            return self.sent_by_found(from, head);
+        if header.command == Command::Search.number() {
+            return self.sent_by_found(from, header);
         }
-        if command == Command::CreateChannel.number() {
-            return self.sent_by_created(circuit, head);
+        if header.command == Command::CreateChannel.number() {
+            return self.sent_by_created(circuit, header);
         }
-        if command == Command::ServerDisconnect.number() {
-            return self.sent_by_left(circuit, head);
+        if header.command == Command::ServerDisconnect.number() {
+            return self.sent_by_left(circuit, header);
         }
         Ok(Vec::new(self.alloc))
     }
 
     // SEARCH: a channel that was found is created, if the circuit to its server is connected.
-    fn sent_by_found(&self, from: Address, reply: &Message) -> Result<Vec<Sending>, AllocError>
+    fn sent_by_found(&self, from: Address, reply: &Header) -> Result<Vec<Sending>, AllocError>
         ensures ok { IfOk result (λ sent. map sending_of sent.items
-            ≡ found_sent self.now from reply.now) }
-        ensures some { OnErr result (found_sent self.now from reply.now ≢ []) }
+            ≡ found_sent self.now from (message_of reply.now [])) }
+        ensures some { OnErr result (found_sent self.now from (message_of reply.now []) ≢ []) }
     {
         let found = creation_by(self.alloc, &self.channels, &self.circuits, &[], from, reply)?;
         let Some(creation) = found else {
@@ -84,42 +72,31 @@ impl ClientCore {
 
     // CREATE_CHAN: a channel that is live is subscribed to again; one that its caller cleared
     // meanwhile is cleared now.
-    fn sent_by_created(&self, circuit: Handle, reply: &Message) -> Result<Vec<Sending>, AllocError>
+    fn sent_by_created(&self, circuit: Handle, reply: &Header) -> Result<Vec<Sending>, AllocError>
         ensures ok { IfOk result (λ sent. map sending_of sent.items
-            ≡ (created
-            self.now
-            circuit
-            reply.now
-            (channel_on self.now circuit reply.now.p1)).sent) }
-        ensures some { OnErr result ((created
-            self.now
-            circuit
-            reply.now
-            (channel_on self.now circuit reply.now.p1)).sent ≢ []) }
+            ≡ (created_by self.now circuit reply.now).sent) }
+        ensures some { OnErr result ((created_by self.now circuit reply.now).sent ≢ []) }
     {
-        let Some((channel, phase)) = self.channel_on(circuit, reply.p1()) else {
+        let Some((channel, phase)) = self.channel_on(circuit, reply.p1) else {
             return Ok(Vec::new(self.alloc));
         };
         match phase {
             Phase::Connecting => Ok(Vec::new(self.alloc)),
-            Phase::Creating(_) => self.adds_of(circuit, reply.p2(), channel),
+            Phase::Creating(_) => self.adds_of(circuit, reply.p2, channel),
             Phase::Live(_, _) => Ok(Vec::new(self.alloc)),
             Phase::Leaving => Ok(Vec::new(self.alloc)),
             Phase::Clearing => Ok(Vec::new(self.alloc)),
-            Phase::Doomed => clear_of(self.alloc, circuit, reply.p2(), channel),
+            Phase::Doomed => clear_of(self.alloc, circuit, reply.p2, channel),
         }
     }
 
     // SERVER_DISCONN: a live channel is cleared.
-    fn sent_by_left(&self, circuit: Handle, message: &Message) -> Result<Vec<Sending>, AllocError>
+    fn sent_by_left(&self, circuit: Handle, header: &Header) -> Result<Vec<Sending>, AllocError>
         ensures ok { IfOk result (λ sent. map sending_of sent.items
-            ≡ (left self.now circuit (channel_on self.now circuit message.now.p1)).sent) }
-        ensures some { OnErr result ((left
-            self.now
-            circuit
-            (channel_on self.now circuit message.now.p1)).sent ≢ []) }
+            ≡ (left_by self.now circuit header.now).sent) }
+        ensures some { OnErr result ((left_by self.now circuit header.now).sent ≢ []) }
     {
-        let Some((channel, phase)) = self.channel_on(circuit, message.p1()) else {
+        let Some((channel, phase)) = self.channel_on(circuit, header.p1) else {
             return Ok(Vec::new(self.alloc));
         };
         match phase {
@@ -176,14 +153,8 @@ fn add_of(
     ensures { IfOk result (λ s. sending_of s
         ≡ event_add_sent circuit sid standing.0 standing.1) }
 {
+    let message = add_message(alloc, sid, standing)?;
     let (subscription, found) = standing;
-    let wanted = Wanted {
-        sid: Sid::new(sid),
-        id: Ioid::new(WireId::of(subscription).number()),
-        data_type: found.data_type,
-        count: found.count,
-    };
-    let message = event_add_request(alloc, wanted, found.mask)?;
     let aim = Aim::Subscribe(found.channel, subscription);
     Ok(Sending {
         circuit,

@@ -1,5 +1,7 @@
-//! The end of a circuit has ended, and what is left of it.
-ghost use Rattle.std.specs.Prelude.{◌≡◌, None};
+//! A circuit is cut, or ended by its caller, and what is left of it.
+ghost use Rattle.std.specs.Prelude.{List, ◌≡◌, None};
+ghost use Rattle.ca_model.specs.Answers.{Sending};
+ghost use Rattle.ca_model.specs.ClientEnds.{ClientCloses, ClientCuts};
 ghost use Rattle.ca_model.specs.Client.{closing, ended};
 ghost use Rattle.ca_client_tables.specs.Closings.{why_is};
 
@@ -12,6 +14,22 @@ use ca_client_tables::{Why, let_go, list_live, take_live};
 use ca_wire::Pipe;
 
 impl ClientCore {
+    /// A circuit was cut: the client's end of it has ended. It does not allocate.
+    pub fn cut(&mut self, circuit: Handle) -> Closing
+        ensures { (sent : List Sending)
+            × ClientCuts self.old circuit result sent self.new }
+    {
+        self.end(circuit, Why::Cut)
+    }
+
+    /// Ends the client's end of a circuit, as its caller asks. It does not allocate.
+    pub fn close(&mut self, circuit: Handle) -> Closing
+        ensures { (sent : List Sending)
+            × ClientCloses self.old circuit result sent self.new }
+    {
+        self.end(circuit, Why::Asked)
+    }
+
     // The end of this circuit has ended for this cause: its notices, and the bytes that waited.
     // It does not allocate.
     pub(crate) fn end(&mut self, circuit: Handle, why: Why) -> Closing

@@ -6,7 +6,6 @@
 #![tactic(auto)]
 
 mod access_rights;
-mod asking;
 mod beginning;
 mod channel_state;
 mod clear_channel;
@@ -16,18 +15,14 @@ mod closing;
 mod connecting;
 mod create_channel;
 mod create_channel_fail;
-mod cutting;
 mod dispatching;
 mod error;
 mod event_add;
-mod first;
 pub mod for_accepts;
 pub mod for_datagrams;
 pub mod for_histories;
 pub mod for_moments;
-mod foreseeing;
 mod foretelling;
-mod input;
 mod issuing;
 mod letting_go;
 mod live;

@@ -1,13 +1,16 @@
-//! Live channels, and what is known of one.
-ghost use Rattle.std.specs.Prelude.{◌≡◌};
+//! Live channels, and which reads and subscriptions a client may send on one.
+ghost use Rattle.std.specs.Prelude.{◌≡◌, ◌<◌, IfOk, None, false};
 ghost use Rattle.ca_model.specs.Client.{standing_at};
-ghost use Rattle.ca_client_core.specs.Calls.{live_in};
-ghost use Rattle.ca_client_core.specs.Lives.{lives};
+ghost use Rattle.ca_client_core.specs.Calls.{live_in, live_ask_fault};
+ghost use Rattle.ca_client_core.specs.Lives.{lives, MayAsk};
 
 use crate::client::ClientCore;
 use ca_arena::Handle;
 use ca_client_tables::{Native, Phase, Standing};
 use ca_text::Refusal;
+
+/// The greatest type of an image.
+const LAST_TYPE: u64 = 20;
 
 /// A channel that is live: on which circuit, as what, and with which access rights.
 #[derive(Clone, Copy, Debug, PartialEq, Eq)]
@@ -42,5 +45,67 @@ impl ClientCore {
                 Phase::Doomed => Err(Refusal::NotLive),
             },
         }
+    }
+
+    // The live channel on which a read or a subscription may go out, while an id is free for it.
+    //
+    // Refused as StaleHandle, NotLive, BadType, NoAccess, BadCount, then as OutputFull.
+    pub(crate) fn askable(
+        &self,
+        channel: Handle,
+        data_type: u16,
+        count: u32,
+    ) -> Result<Live, Refusal>
+        ensures { MayAsk
+            self.now
+            channel
+            (record { data_type = data_type; count = count })
+            result }
+    {
+        self.askable_wide(channel, u64::from(data_type), u64::from(count))
+    }
+
+    // The live channel on which a read or a subscription may go out, of a type and a count that may
+    // be greater than any that a message carries.
+    pub(crate) fn askable_wide(
+        &self,
+        channel: Handle,
+        data_type: u64,
+        count: u64,
+    ) -> Result<Live, Refusal>
+        ensures may { MayAsk
+            self.now
+            channel
+            (record { data_type = data_type; count = count })
+            result }
+        ensures fits { IfOk result (λ _. (data_type < 65536) × (count < 4294967296)) }
+    {
+        let live = self.live(channel)?;
+        match self.ask_fault(live, data_type, count) {
+            Some(refusal) => Err(refusal),
+            None => Ok(live),
+        }
+    }
+
+    // Why a read or a subscription on a live channel is refused while an id is free for it.
+    fn ask_fault(&self, live: Live, data_type: u64, count: u64) -> Option<Refusal>
+        ensures fault { result
+            ≡ live_ask_fault self.now false live.circuit live.native.count live.rights
+            (record { data_type = data_type; count = count }) }
+        ensures fits { result ≡ None → (data_type < 65536) × (count < 4294967296) }
+    {
+        if data_type > LAST_TYPE {
+            return Some(Refusal::BadType);
+        }
+        if live.rights % 2 != 1 {
+            return Some(Refusal::NoAccess);
+        }
+        if count > u64::from(live.native.count) {
+            return Some(Refusal::BadCount);
+        }
+        if self.is_over(live.circuit) {
+            return Some(Refusal::OutputFull);
+        }
+        None
     }
 }

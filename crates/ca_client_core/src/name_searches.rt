@@ -2,13 +2,14 @@
 ghost use Rattle.std.specs.Prelude.{◌≡◌, ◌≢◌, [], List, IfOk, OnErr, OnOk};
 ghost use Rattle.ca_wire.specs.Fields.{Fields};
 ghost use Rattle.ca_wire.specs.Messages.{search_request};
-ghost use Rattle.ca_model.specs.ClientEnds.{Ticking, is_name_connected};
+ghost use Rattle.ca_model.specs.ClientEnds.{all_searched_on, is_name_connected, searches_on};
 ghost use Rattle.ca_client_tables.specs.Ends.{with_messages};
+ghost use Rattle.ca_client_core.specs.Foretold.{Notes};
 ghost use Rattle.ca_client_core.specs.Marks.{undone};
-ghost use Rattle.ca_client_core.specs.Moments.{SearchesAll, is_searched_on, search_step};
-ghost use Rattle.ca_client_core.specs.NameSearches.{searched_all, searched_on};
+ghost use Rattle.ca_client_core.specs.Moments.{all_searched, is_searched_on, search_step};
 
 use crate::client::ClientCore;
+use crate::for_histories::{Sending, of_circuit};
 use crate::marks::CircuitMark;
 use ca_arena::Handle;
 use ca_search::Search;
@@ -16,48 +17,8 @@ use ca_wire::{Cid, Message, search_request};
 use std::alloc::{AllocError, Global};
 
 impl ClientCore {
-    // These searches wait on the circuits of name servers that are connected and were not silent
-    // too long, on each after a mark. Without memory the first of them may.
-    pub(crate) fn search_names(
-        &mut self,
-        searches: &[Search],
-        marks: &mut Vec<CircuitMark>,
-    ) -> Result<(), AllocError>
-        ensures kept { undone marks.new.items self.new ≡ undone marks.old.items self.old }
-        ensures ok { OnOk result (SearchesAll searches.now self.old self.new) }
-        ensures some { OnErr result (searches.now ≢ []) }
-    {
-        if searches.is_empty() {
-            return Ok(());
-        }
-        for index in 0..self.circuits_listed() {
-            let circuit = self.listed_at(index);
-            self.search_name(circuit, searches, marks)?;
-        }
-        Ok(())
-    }
-
-    // These searches wait on this circuit, after a mark, if it is one for them.
-    fn search_name(
-        &mut self,
-        circuit: Handle,
-        searches: &[Search],
-        marks: &mut Vec<CircuitMark>,
-    ) -> Result<(), AllocError>
-        ensures kept { undone marks.new.items self.new ≡ undone marks.old.items self.old }
-        ensures ok { OnOk result ((t : Ticking) → t.core ≡ self.old
-            → self.new ≡ (search_step searches.now t circuit).core) }
-    {
-        if !self.is_searched_on(circuit) {
-            return Ok(());
-        }
-        marks.push(self.mark(circuit))?;
-        self.search_all_on(circuit, searches)?;
-        Ok(())
-    }
-
     // Whether searches go out on a circuit.
-    pub(crate) fn is_searched_on(&self, circuit: Handle) -> bool
+    fn is_searched_on(&self, circuit: Handle) -> bool
         ensures { result ≡ is_searched_on self.now circuit }
     {
         self.is_name_connected(circuit) && !self.is_silent(circuit)
@@ -73,34 +34,104 @@ impl ClientCore {
         }
     }
 
-    // These searches wait on a circuit, in order, until too much waits there. Without memory
-    // the first of them may.
-    fn search_all_on(&mut self, circuit: Handle, searches: &[Search]) -> Result<(), AllocError>
-        ensures ok { OnOk result (self.new ≡ searched_all circuit searches.now self.old) }
-        ensures kept { (ms : List Fields) × (self.new ≡ with_messages circuit ms self.old) }
+    // These searches go out on the circuits of name servers that are connected and were not silent
+    // too long, on each after a mark, and are noted. Without memory the first of them may.
+    pub(crate) fn note_searches(
+        &mut self,
+        searches: &[Search],
+        marks: &mut Vec<CircuitMark>,
+        sent: &mut Vec<Sending>,
+    ) -> Result<(), AllocError>
+        ensures kept { undone marks.new.items self.new ≡ undone marks.old.items self.old }
+        ensures ok { OnOk result (Notes
+            (all_searched searches.now self.old.order)
+            self.old
+            sent.old.items
+            self.new
+            sent.new.items) }
+        ensures some { OnErr result (searches.now ≢ []) }
     {
-        for index in 0..searches.len() {
-            self.search_on(circuit, &searches[index])?;
+        if searches.is_empty() {
+            return Ok(());
+        }
+        for index in 0..self.circuits_listed() {
+            let circuit = self.listed_at(index);
+            self.note_searched(circuit, searches, marks, sent)?;
         }
         Ok(())
     }
 
-    // A search waits on a circuit, unless too much waits there. Without memory nothing changes.
-    fn search_on(&mut self, circuit: Handle, search: &Search) -> Result<(), AllocError>
-        ensures ok { OnOk result (self.new ≡ searched_on circuit search.now self.old) }
-        ensures err { OnErr result (self.new ≡ self.old) }
+    // These searches go out on this circuit, if it is one for them, and are noted.
+    fn note_searched(
+        &mut self,
+        circuit: Handle,
+        searches: &[Search],
+        marks: &mut Vec<CircuitMark>,
+        sent: &mut Vec<Sending>,
+    ) -> Result<(), AllocError>
+        ensures kept { undone marks.new.items self.new ≡ undone marks.old.items self.old }
+        ensures ok { OnOk result (Notes
+            (λ t. search_step searches.now t circuit)
+            self.old
+            sent.old.items
+            self.new
+            sent.new.items) }
+    {
+        if !self.is_searched_on(circuit) {
+            return Ok(());
+        }
+        marks.push(self.mark(circuit))?;
+        self.note_all_on(circuit, searches, sent)
+    }
+
+    // These searches go out on a circuit, and are noted.
+    fn note_all_on(
+        &mut self,
+        circuit: Handle,
+        searches: &[Search],
+        sent: &mut Vec<Sending>,
+    ) -> Result<(), AllocError>
+        ensures ok { OnOk result (Notes
+            (λ t. all_searched_on searches.now t circuit)
+            self.old
+            sent.old.items
+            self.new
+            sent.new.items) }
+        ensures kept { (ms : List Fields) × (self.new ≡ with_messages circuit ms self.old) }
+    {
+        for index in 0..searches.len() {
+            self.note_search(circuit, &searches[index], sent)?;
+        }
+        Ok(())
+    }
+
+    // A search goes out on a circuit and is noted, unless too much waits there.
+    fn note_search(
+        &mut self,
+        circuit: Handle,
+        search: &Search,
+        sent: &mut Vec<Sending>,
+    ) -> Result<(), AllocError>
+        ensures ok { OnOk result (Notes
+            (λ t. searches_on circuit t search.now)
+            self.old
+            sent.old.items
+            self.new
+            sent.new.items) }
+        ensures kept { (ms : List Fields) × (self.new ≡ with_messages circuit ms self.old) }
     {
         if self.is_over(circuit) {
             return Ok(());
         }
         let message = search_message(self.alloc, search)?;
         self.queue(circuit, &message)?;
+        sent.push(of_circuit(circuit, message))?;
         Ok(())
     }
 }
 
 // The SEARCH of a search.
-pub(crate) fn search_message(alloc: Global, search: &Search) -> Result<Message, AllocError>
+fn search_message(alloc: Global, search: &Search) -> Result<Message, AllocError>
     ensures { IfOk result (λ m. m ≡ search_request search.now.cid search.now.name) }
 {
     let name = search.name();

@@ -12,7 +12,7 @@ ghost use Rattle.ca_model.specs.Placed.{HasNothingOut};
 use crate::client::ClientCore;
 use crate::searches::resume;
 use ca_arena::Handle;
-use ca_client_tables::{Native, Phase, Standing, bring_back, note_live, set_standing};
+use ca_client_tables::{Native, Phase, Standing, note_live, set_standing};
 use ca_ids::WireId;
 use std::alloc::AllocError;
 
@@ -76,7 +76,7 @@ impl ClientCore {
         requires { HasNothingOut channel self.old }
         ensures { self.new ≡ searched_again self.old channel }
     {
-        bring_back(&mut self.channels, channel);
+        set_standing(&mut self.channels, channel, Standing::Searching);
         resume(
             &mut self.searches,
             WireId::of(channel).number(),

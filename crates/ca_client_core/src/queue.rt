@@ -1,9 +1,9 @@
 //! What calls share: handles are looked up, and messages are queued.
-ghost use Rattle.std.specs.Prelude.{◌≡◌, ◌∷◌, [], OnErr, OnOk, option_map};
-ghost use Rattle.ca_link.specs.Link.{with_sent};
-ghost use Rattle.ca_model.specs.Client.{on_connection, standing_at};
+ghost use Rattle.std.specs.Prelude.{◌≡◌, OnErr, OnOk, option_map};
+ghost use Rattle.ca_model.specs.Client.{standing_at};
 ghost use Rattle.ca_model.specs.ClientCalls.{is_over};
 ghost use Rattle.ca_model.specs.Placed.{IsPlaced};
+ghost use Rattle.ca_client_tables.specs.Ends.{with_message};
 ghost use Rattle.ca_client_tables.specs.Forms.{standing_of};
 
 use crate::client::ClientCore;
@@ -41,11 +41,7 @@ impl ClientCore {
 
     // Puts a message after what waits on a circuit that is connected.
     pub(crate) fn queue(&mut self, circuit: Handle, message: &Message) -> Result<(), AllocError>
-        ensures ok { OnOk result (self.new
-            ≡ on_connection
-            (λ e. record e { link = with_sent (message.now ∷ []) e.link })
-            circuit
-            self.old) }
+        ensures ok { OnOk result (self.new ≡ with_message circuit message.now self.old) }
         ensures err { OnErr result (self.new ≡ self.old) }
     {
         let Some(found) = self.circuits.by_handle_mut(circuit) else {

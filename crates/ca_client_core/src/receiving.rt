@@ -1,13 +1,17 @@
 //! What a client makes of a datagram.
 ghost use Rattle.std.specs.Prelude.{List};
-ghost use Rattle.ca_model.specs.Answers.{Sending};
+ghost use Rattle.ca_model.specs.Answers as answer;
 ghost use Rattle.ca_model.specs.ClientEnds.{ClientReceives};
+ghost use Rattle.ca_client_core.specs.ForDatagrams.{NotesDatagram};
 
 use crate::client::ClientCore;
+use crate::for_datagrams::push_creations;
+use crate::for_histories::Sending;
 use crate::searches::settle;
-use ca_client_tables::{Address, receive_all};
+use ca_client_tables::{Address, Noted, receive_all};
 use ca_dgram::Datagram;
 use ca_text::Refusal;
+use std::alloc::AllocError;
 
 impl ClientCore {
     /// Takes a datagram that came from this address: search replies and beacons, one after another,
@@ -15,7 +19,7 @@ impl ClientCore {
     ///
     /// Refused as OutOfMemory, only if there is a message in it.
     pub fn datagram(&mut self, now: u64, from: Address, bytes: &[u8]) -> Result<(), Refusal>
-        ensures { (sent : List Sending)
+        ensures { (sent : List answer.Sending)
             × ClientReceives
             self.old
             (record { now = now; from = from; bytes = bytes.now })
@@ -23,7 +27,31 @@ impl ClientCore {
             sent
             self.new }
     {
-        let datagram = Datagram::read(self.alloc, bytes)?;
+        match self.receive(now, from, bytes) {
+            Ok(_sent) => Ok(()),
+            Err(_) => Err(Refusal::OutOfMemory),
+        }
+    }
+
+    // Takes a datagram: what that sends.
+    pub(crate) fn receive(
+        &mut self,
+        now: u64,
+        from: Address,
+        bytes: &[u8],
+    ) -> Result<Vec<Sending>, AllocError>
+        ensures { NotesDatagram
+            self.old
+            (record { now = now; from = from; bytes = bytes.now })
+            result
+            self.new }
+    {
+        let Ok(datagram) = Datagram::read(self.alloc, bytes) else {
+            return Err(AllocError);
+        };
+        let messages = datagram.messages();
+        let mut sent = Vec::new(self.alloc);
+        sent.reserve(messages.len())?;
         let moment = self.moment.max(now);
         match receive_all(
             self.alloc,
@@ -32,14 +60,19 @@ impl ClientCore {
             &mut self.order,
             &mut self.beacons,
             from,
-            datagram.messages(),
+            messages,
         ) {
-            Ok(done) => {
+            Ok(noted) => {
                 self.moment = moment;
+                let Noted {
+                    done,
+                    sent: creations,
+                } = noted;
                 settle(&mut self.searches, moment, &done);
-                Ok(())
+                push_creations(&mut sent, creations);
+                Ok(sent)
             }
-            Err(_) => Err(Refusal::OutOfMemory),
+            Err(_) => Err(AllocError),
         }
     }
 }

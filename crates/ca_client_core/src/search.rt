@@ -1,7 +1,8 @@
 //! What a client makes of a SEARCH that comes on a circuit: it is a reply.
-ghost use Rattle.std.specs.Prelude.{◌≡◌};
+ghost use Rattle.std.specs.Prelude.{◌≡◌, []};
 ghost use Rattle.ca_text.specs.Command.{command_number};
 ghost use Rattle.ca_text.specs.declared.command.Command.TheVariants.{Search};
+ghost use Rattle.ca_requests.specs.Meaning.{message_of};
 ghost use Rattle.ca_client_tables.specs.declared.first.First.TheVariants as first;
 ghost use Rattle.ca_client_core.specs.Dispatch.{HearsFirst};
 ghost use Rattle.ca_client_core.specs.First.{FirstOn};
@@ -11,8 +12,8 @@ use crate::client::ClientCore;
 use crate::notices::Notices;
 use crate::searches::pause_found;
 use ca_arena::Handle;
-use ca_client_tables::{Address, find, with_header};
-use ca_wire::{Head, Message};
+use ca_client_tables::{Address, find};
+use ca_wire::{Head, Header};
 use std::alloc::AllocError;
 
 impl ClientCore {
@@ -31,15 +32,14 @@ impl ClientCore {
             unreachable!()
         };
         let from = found.address;
-        let reply = with_header(self.alloc, head.header);
-        self.hear_found(from, &reply)?;
+        self.hear_found(from, &head.header)?;
         Ok(Notices::none(self.alloc))
     }
 
     // It came from this address: a channel that is searched for was found, and is put on the
     // circuit to its server. A circuit to it is wanted from now on if there is none.
-    fn hear_found(&mut self, from: Address, message: &Message) -> Result<(), AllocError>
-        ensures { FindsOr self.old from message.now result self.new }
+    fn hear_found(&mut self, from: Address, reply: &Header) -> Result<(), AllocError>
+        ensures { FindsOr self.old from (message_of reply.now []) result self.new }
     {
         let found = find(
             self.alloc,
@@ -47,7 +47,7 @@ impl ClientCore {
             &mut self.circuits,
             &mut self.order,
             from,
-            message,
+            reply,
         )?;
         if let Some(channel) = found {
             pause_found(&mut self.searches, channel);

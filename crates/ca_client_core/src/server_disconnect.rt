@@ -3,12 +3,10 @@ ghost use Rattle.std.specs.Prelude.{◌≡◌};
 ghost use Rattle.ca_text.specs.Command.{command_number};
 ghost use Rattle.ca_text.specs.declared.command.Command.TheVariants.{ServerDisconnect};
 ghost use Rattle.ca_model.specs.Client as client;
-ghost use Rattle.ca_model.specs.Client.{channel_on};
-ghost use Rattle.ca_model.specs.Hears.{left};
 ghost use Rattle.ca_client_tables.specs.declared.first.First.TheVariants.{Message};
 ghost use Rattle.ca_client_core.specs.Dispatch.{HearsFirst};
 ghost use Rattle.ca_client_core.specs.First.{FirstOn};
-ghost use Rattle.ca_client_core.specs.Hearing.{HasEffect};
+ghost use Rattle.ca_client_core.specs.Hearing.{HasEffect, left_by};
 ghost use Rattle.ca_client_core.specs.Again.{leaving};
 ghost use Rattle.ca_client_core.specs.Turns.{MayTurn};
 
@@ -39,11 +37,7 @@ impl ClientCore {
     // A live channel's requests complete with Disconnected, in order of issue; it is lost, and
     // cleared.
     fn hear_left(&mut self, circuit: Handle, header: &Header) -> Result<Notices, AllocError>
-        ensures { HasEffect
-            self.old
-            (left self.old circuit (channel_on self.old circuit header.now.p1))
-            result
-            self.new }
+        ensures { HasEffect self.old (left_by self.old circuit header.now) result self.new }
     {
         let Some((channel, phase)) = self.channel_on(circuit, header.p1) else {
             return Ok(Notices::none(self.alloc));

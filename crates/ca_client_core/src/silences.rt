@@ -3,25 +3,23 @@ ghost use Rattle.std.specs.Prelude.{◌≡◌, ◌≢◌, ◌<◌, [], true, IfO
 ghost use Rattle.std.specs.Prelude.{slice_get};
 ghost use Rattle.ca_link.specs.Link.{kept};
 ghost use Rattle.ca_model.specs.ClientEnds.{Ticking};
+ghost use Rattle.ca_client_core.specs.Foretold.{Notes};
 ghost use Rattle.ca_client_core.specs.Marks.{undone};
-ghost use Rattle.ca_client_core.specs.Moments.{EchoIsDue, EchoesAll, asked_at, echo_step, is_close};
-ghost use Rattle.ca_client_core.specs.Moments.{is_echo, is_echo_due, is_silent, silent_of};
+ghost use Rattle.ca_client_core.specs.Moments.{EchoIsDue, EchoesAll, all_echoed, asked_at};
+ghost use Rattle.ca_client_core.specs.Moments.{echo_step, is_close, is_echo, is_echo_due, is_silent};
+ghost use Rattle.ca_client_core.specs.Moments.{silent_of};
 ghost use Rattle.ca_client_core.specs.Silences.{echoed};
 
 use crate::client::ClientCore;
+use crate::for_histories::{Sending, of_circuit};
 use crate::marks::CircuitMark;
 use ca_arena::Handle;
 use ca_link::Keep;
+use ca_text::Command;
+use ca_wire::header_only;
 use std::alloc::AllocError;
 
 impl ClientCore {
-    // How many circuits are wanted or connected.
-    pub(crate) fn circuits_listed(&self) -> usize
-        ensures { result ≡ length self.now.order }
-    {
-        self.order.len()
-    }
-
     // The circuit at this place of their order.
     pub(crate) fn listed_at(&self, index: usize) -> Handle
         requires { index < length self.now.order }
@@ -41,7 +39,7 @@ impl ClientCore {
     }
 
     // Whether an ECHO is due on a circuit.
-    pub(crate) fn is_echo_due(&self, circuit: Handle) -> bool
+    fn is_echo_due(&self, circuit: Handle) -> bool
         ensures { result ≡ is_echo_due self.now circuit }
     {
         is_echo(self.asked(circuit))
@@ -69,25 +67,57 @@ impl ClientCore {
         Ok(silent)
     }
 
-    // The ECHOs that are due go out, each after a mark. Without memory the first of them may.
-    pub(crate) fn echo_all(&mut self, marks: &mut Vec<CircuitMark>) -> Result<(), AllocError>
+    // The ECHOs that are due go out, each after a mark, and are noted. Without memory the first of
+    // them may.
+    pub(crate) fn note_echoes(
+        &mut self,
+        marks: &mut Vec<CircuitMark>,
+        sent: &mut Vec<Sending>,
+    ) -> Result<(), AllocError>
         ensures kept { undone marks.new.items self.new ≡ undone marks.old.items self.old }
-        ensures ok { OnOk result (EchoesAll self.old self.new) }
+        ensures ok { OnOk result (Notes
+            (all_echoed self.old.order)
+            self.old
+            sent.old.items
+            self.new
+            sent.new.items) }
+        ensures echoes { OnOk result (EchoesAll self.old self.new) }
         ensures some { OnErr result (EchoIsDue self.old) }
     {
         for index in 0..self.circuits_listed() {
             let circuit = self.listed_at(index);
-            self.echo_on(circuit, marks)?;
+            self.note_echo(circuit, marks, sent)?;
         }
         Ok(())
     }
 
-    // The ECHO of a circuit, if it is due.
-    pub(crate) fn echo_on(
+    // The ECHO of a circuit goes out and is noted, if it is due.
+    fn note_echo(
         &mut self,
         circuit: Handle,
         marks: &mut Vec<CircuitMark>,
+        sent: &mut Vec<Sending>,
     ) -> Result<(), AllocError>
+        ensures kept { undone marks.new.items self.new ≡ undone marks.old.items self.old }
+        ensures ok { OnOk result (Notes
+            (λ t. echo_step t circuit)
+            self.old
+            sent.old.items
+            self.new
+            sent.new.items) }
+        ensures echoes { OnOk result ((t : Ticking) → t.core ≡ self.old
+            → self.new ≡ (echo_step t circuit).core) }
+        ensures some { OnErr result (is_echo_due self.old circuit ≡ true) }
+    {
+        if !self.is_echo_due(circuit) {
+            return Ok(());
+        }
+        sent.push(of_circuit(circuit, header_only(self.alloc, Command::Echo)))?;
+        self.echo_on(circuit, marks)
+    }
+
+    // The ECHO of a circuit, if it is due.
+    fn echo_on(&mut self, circuit: Handle, marks: &mut Vec<CircuitMark>) -> Result<(), AllocError>
         ensures kept { undone marks.new.items self.new ≡ undone marks.old.items self.old }
         ensures ok { OnOk result ((t : Ticking) → t.core ≡ self.old
             → self.new ≡ (echo_step t circuit).core) }

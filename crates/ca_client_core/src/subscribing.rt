@@ -1,5 +1,6 @@
 //! A subscription begins.
-ghost use Rattle.std.specs.Prelude.{List};
+ghost use Rattle.std.specs.Prelude.{◌≡◌, IfOk, List};
+ghost use Rattle.ca_client_core.specs.Again.{add_message};
 ghost use Rattle.ca_client_core.specs.Asks.{AddsOr, Subscribes};
 ghost use Rattle.ca_model.specs.Answers.{Sending};
 ghost use Rattle.ca_model.specs.ClientCalls.{ClientSubscribes};
@@ -10,7 +11,7 @@ use ca_ids::WireId;
 use ca_monitor::{Subscription, SubscriptionStage};
 use ca_text::{Mask, Refusal};
 use ca_wire::{Ioid, Message, Sid, Wanted, event_add_request};
-use std::alloc::AllocError;
+use std::alloc::{AllocError, Global};
 
 impl ClientCore {
     /// Subscribes to a channel: its updates on these events are reported from now on, as this type
@@ -40,21 +41,15 @@ impl ClientCore {
         let Some(vacant) = self.monitors.vacant() else {
             return Err(Refusal::ArenaFull);
         };
-        let wanted = Wanted {
-            sid: Sid::new(live.native.sid),
-            id: Ioid::new(WireId::of(vacant).number()),
-            data_type,
-            count,
-        };
-        let Ok(message) = event_add_request(self.alloc, wanted, mask) else {
-            return Err(Refusal::OutOfMemory);
-        };
         let added = Subscription {
             channel,
             data_type,
             count,
             mask,
             stage: SubscriptionStage::Stands,
+        };
+        let Ok(message) = add_message(self.alloc, live.native.sid, (vacant, added)) else {
+            return Err(Refusal::OutOfMemory);
         };
         match self.add(vacant, live.circuit, added, &message) {
             Ok(()) => Ok(vacant),
@@ -104,4 +99,23 @@ impl ClientCore {
             }
         }
     }
+}
+
+// The EVENT_ADD of a subscription, of this handle, under this SID.
+pub(crate) fn add_message(
+    alloc: Global,
+    sid: u32,
+    standing: (Handle, Subscription),
+) -> Result<Message, AllocError>
+    ensures { IfOk result (λ m. m ≡ add_message sid standing) }
+{
+    let (subscription, found) = standing;
+    let wanted = Wanted {
+        sid: Sid::new(sid),
+        id: Ioid::new(WireId::of(subscription).number()),
+        data_type: found.data_type,
+        count: found.count,
+    };
+    let message = event_add_request(alloc, wanted, found.mask)?;
+    Ok(message)
 }

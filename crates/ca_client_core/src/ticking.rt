@@ -3,19 +3,23 @@ ghost use Rattle.std.specs.Prelude.{List, ◌≡◌, ◌≢◌, ◌+◌, ◌<◌
 ghost use Rattle.std.specs.Prelude.{length, map, vec_capacity, vec_len};
 ghost use Rattle.ca_search.specs.Searcher.{with_all};
 ghost use Rattle.ca_search.specs.Searches.{passed};
-ghost use Rattle.ca_model.specs.Answers.{Sending};
+ghost use Rattle.ca_model.specs.Answers as answer;
 ghost use Rattle.ca_model.specs.ClientEnds.{ClientTicks, Ticking, to_server};
 ghost use Rattle.ca_client_core.specs.Marks.{undone};
 ghost use Rattle.ca_client_core.specs.Moments.{all_ended, end_step};
 ghost use Rattle.ca_client_core.specs.Ticked.{CarriesOut, LacksMemory, Plans, Reports};
+ghost use Rattle.ca_text.specs.Limits.{arena_slots};
+ghost use Rattle.ca_client_tables.specs.Ahead.{Once, due_after, is_in};
 
 use crate::client::ClientCore;
 use crate::closing::Closing;
+use crate::for_histories::Sending;
 use crate::marks::CircuitMark;
 use crate::notices::Notices;
-use crate::searches::pass;
+use crate::searches::{due_in, find_after, pass};
 use ca_arena::Handle;
 use ca_client_tables::{AddressedDatagram, Why, packed, to_servers};
+use ca_search::Search;
 use ca_text::Refusal;
 use ca_wire::Pipe;
 use std::alloc::AllocError;
@@ -58,9 +62,11 @@ impl Model for Ticked {
 
 // What a moment asks of a client, once all that allocates is done.
 #[derive(Debug, Drop)]
-struct Plan {
+pub(crate) struct Plan {
+    // What was sent on circuits.
+    pub(crate) sent: Vec<Sending>,
     // The circuits that were silent too long.
-    ends: Vec<Handle>,
+    pub(crate) ends: Vec<Handle>,
     // Empty, with room for one for each of `ends`.
     closings: Vec<Left>,
     datagrams: Vec<AddressedDatagram>,
@@ -74,7 +80,7 @@ impl ClientCore {
     /// Refused as OutOfMemory, only if an ECHO or a search is due, or an end ends. Nothing changes
     /// then, nor does the moment.
     pub fn tick(&mut self, now: u64) -> Result<Ticked, Refusal>
-        ensures { (sent : List Sending)
+        ensures { (sent : List answer.Sending)
             × ClientTicks self.old now result sent self.new }
     {
         let before = self.moment;
@@ -92,20 +98,22 @@ impl ClientCore {
 
     // All of it that allocates. What is sent goes out after marks; the ends that have to
     // end are still there.
-    fn plan(&mut self, marks: &mut Vec<CircuitMark>) -> Result<Plan, AllocError>
+    pub(crate) fn plan(&mut self, marks: &mut Vec<CircuitMark>) -> Result<Plan, AllocError>
         ensures kept { undone marks.new.items self.new ≡ undone marks.old.items self.old }
         ensures ok { IfOk result (λ p. Plans self.old p self.new) }
         ensures some { OnErr result (LacksMemory self.old) }
     {
         self.know_searches();
-        self.echo_all(marks)?;
+        let mut sent = Vec::new(self.alloc);
+        self.note_echoes(marks, &mut sent)?;
         let ends = self.silent()?;
         let closings = Vec::with_capacity(self.alloc, ends.len())?;
         let searches = self.due_after(&ends)?;
         let packed = packed(self.alloc, &searches)?;
         let datagrams = self.to_servers(&packed)?;
-        self.search_names(&searches, marks)?;
+        self.note_searches(&searches, marks, &mut sent)?;
         Ok(Plan {
+            sent,
             ends,
             closings,
             datagrams,
@@ -121,6 +129,7 @@ impl ClientCore {
             ends,
             mut closings,
             datagrams,
+            ..
         } = plan;
         self.end_each(&ends, &mut closings);
         self.pass_searches();
@@ -181,5 +190,36 @@ impl ClientCore {
         ensures { self.new ≡ record self.old { moment = moment } }
     {
         self.moment = moment;
+    }
+
+    // The searches that are due once these circuits have ended, in order.
+    fn due_after(&self, ends: &[Handle]) -> Result<Vec<Search>, AllocError>
+        ensures found { IfOk result (λ v. v.items
+            ≡ due_after (is_in ends.now) self.now.moment self.now.channels self.now.searches) }
+        ensures some { OnErr result (due_after
+            (is_in ends.now)
+            self.now.moment
+            self.now.channels
+            self.now.searches ≢ []) }
+    {
+        if ends.is_empty() {
+            return due_in(self.alloc, &self.searches, self.moment);
+        }
+        find_after(
+            self.alloc,
+            &self.channels,
+            &self.searches,
+            ends,
+            self.moment,
+        )
+    }
+
+    // There are no more channels than CIDs have indices, and each CID is searched for once.
+    fn know_searches(&self)
+        ensures few { length self.now.channels ≤ arena_slots }
+        ensures once { Once self.now.searches }
+    {
+        self.channels.know_places();
+        self.searches.know_once();
     }
 }

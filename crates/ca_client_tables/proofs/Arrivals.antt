@@ -1,26 +1,20 @@
 -- The messages of a datagram, received one after another, and undone.
-use Rattle.std.proofs.Common.{◌≡◌, ◌≢◌, ◌∙◌, ℕ, suc, ◌+◌, ◌<◌, ◌^◌, Bool, List, [], ◌∷◌, ◌++◌, Option, Some, None, Result, Ok, Err, append-nil, append_assoc, ap, arith, drop, get_or, if◌then◌else◌, length, refl, subst, sym}
-use Rattle.std.proofs.Math.Numerals.{add-one}
-use Rattle.std.proofs.Math.Seq.{drop-cons}
-use Rattle.std.specs.Prelude.{Vec}
+use Rattle.std.proofs.Common.{◌≡◌, ◌≢◌, ◌∙◌, ℕ, ◌+◌, ◌<◌, ◌^◌, Bool, List, [], ◌∷◌, ◌++◌, Option, Some, None, Result, Ok, Err, ap, arith, if◌then◌else◌, length, refl, subst, sym}
 use Rattle.std.specs.declared.alloc.AllocError.{AllocError}
-use Rattle.std.specs.declared.alloc.Global.{Global}
 use Rattle.ca_text.specs.Command.{command_number}
 use Rattle.ca_text.specs.declared.command.Command.TheVariants as command
 use Rattle.ca_beacon.specs.Table.{Servers, noted}
 use Rattle.ca_search.specs.Searcher.{with_all}
 use Rattle.ca_search.specs.Searches as search
 use Rattle.ca_wire.specs.Fields.{Fields}
-use Rattle.ca_model.specs.Answers.{Notice}
 use Rattle.ca_model.specs.Client.{Client}
 use Rattle.ca_model.specs.ClientEnds.{beacon_heard, beacon_server}
 use Rattle.ca_model.specs.ClientEnds as receives
 use Rattle.ca_model.specs.Ends.{Address}
-use Rattle.ca_model.specs.Hears.{Effect, becomes}
+use Rattle.ca_model.specs.Hears.{becomes}
 use Rattle.ca_model.specs.Speech.{Is}
 use Rattle.ca_client_tables.specs.Finding.{FindsOne, Halfway, Tables, opened}
-use Rattle.ca_client_tables.specs.Opening.{AreOpening}
-use Rattle.ca_client_tables.specs.Receiving.{HalfParts, HasReceived, HaveReceived, HearsBeacon, HearsIn, OpensOrUndoes, Parts, ReceivesAllIn, ReceivesIn, all_settled, all_undone, in_tables, opened_parts, parts_of, received_undone, settled, tables_in, unopened_parts, with_parts}
+use Rattle.ca_client_tables.specs.Receiving.{HalfParts, HearsBeacon, HearsIn, Parts, ReceivesIn, all_undone, in_tables, received_undone, settled, tables_in, with_parts}
 use Rattle.ca_client_tables.specs.declared.beacons.Beacon.{Beacon}
 use Rattle.ca_client_tables.specs.declared.finding.Found.{Found}
 use Rattle.ca_client_tables.specs.declared.receiving.Received.{Received}
@@ -85,31 +79,6 @@ beacon-received old from m (Err e) bs is same = ap (λ (t : Servers). let p : Ha
 
 -- ---- one after another
 
--- how far a datagram is received
-pub record SoFar (first now : HalfParts) (from : Address) (ms : List Fields) (i : ℕ) (done : List Received) : Type 0 where
-  pub goes : (ds : List Received) (final : Parts) → HaveReceived (opened_parts now) from (drop i ms) ds final → HaveReceived (opened_parts first) from ms (done ++ ds) final
-  pub back : all_undone done now ≡ first
-  pub some : now.opening ≢ first.opening → ms ≢ []
-  pub opening : AreOpening now.opening now.circuits
-
-pub so-far-none : (first : HalfParts) (from : Address) (ms : List Fields) → AreOpening first.opening first.circuits → SoFar first first from ms 0 []
-so-far-none first from ms opening = record { goes = λ ds final have. have; back = refl; some = λ other. absurd (other refl); opening = opening }
-
--- what is left at this place: its message, and the rest
-left-from : (ms : List Fields) (i : ℕ) (m : Fields) → i < length ms → m ≡ get_or ms i m → drop i ms ≡ m ∷ drop (i + 1) ms
-left-from ms i m within is =
-    drop-cons ms i m within
-    ∙ ap (λ (n : Fields). n ∷ drop (suc i) ms) (sym is)
-    ∙ ap (λ (n : ℕ). m ∷ drop n ms) (sym (add-one i))
-
-have-more : (old mid final : Parts) (from : Address) (m : Fields) (rest : List Fields) (d : Received) (ds : List Received) → HasReceived old from m d mid → HaveReceived mid from rest ds final → HaveReceived old from (m ∷ rest) (d ∷ ds) final
-have-more old mid final from m rest d ds one others =
-    λ x at.
-    (let a = one x at in
-    let b = others a.0.core (ap parts_of a.3) in
-    let e : Effect = record { core = b.0.core; sent = a.0.sent ++ b.0.sent; notices = a.0.notices ++ b.0.notices } in
-    (e, (a.0, b.0, a.1, b.1, refl), ap (λ (ns : List Notice). ns ++ b.0.notices) a.2 ∙ b.2, b.3 ∙ ap (λ (y : Client). all_settled ds (with_parts final y)) a.3))
-
 pub some-of : {T : Type 0} (ts : List T) (i : ℕ) → i < length ts → ts ≢ []
 some-of [] i within = absurd (omega (arith, within))
 some-of (t ∷ ts) i within = λ none. absurd cc
@@ -118,33 +87,6 @@ pub undone-last : (ds : List Received) (d : Received) (p : HalfParts) → all_un
 undone-last [] d p = refl
 undone-last (e ∷ ds) d p = ap (received_undone e) (undone-last ds d p)
 
-pub so-far-more : (first now next : HalfParts) (from : Address) (ms : List Fields) (i : ℕ) (m : Fields) (done : List Received) (d : Received) → i < length ms → m ≡ get_or ms i m → ReceivesIn now from m (Ok d) next → AreOpening next.opening next.circuits → SoFar first now from ms i done → SoFar first next from ms (i + 1) (done ++ d ∷ [])
-so-far-more first now next from ms i m done d within is did opening far = record {
-  goes = λ ds final have.
-      subst (λ (es : List Received). HaveReceived (opened_parts first) from ms es final) (sym (append_assoc done (d ∷ []) ds))
-      (far.goes (d ∷ ds) final (subst (λ (ns : List Fields). HaveReceived (opened_parts now) from ns (d ∷ ds) final) (sym (left-from ms i m within is)) (have-more (opened_parts now) (opened_parts next) final from m (drop (i + 1) ms) d ds did.0 have)));
-  back = undone-last done d next ∙ ap (all_undone done) did.1 ∙ far.back;
-  some = λ other. some-of ms i within;
-  opening = opening;
-}
-
-have-none : (p : Parts) (from : Address) → HaveReceived p from [] [] p
-have-none p from = λ x at. (becomes x, refl, refl, ap (λ (q : Parts). with_parts q x) at)
-
--- all were
-so-far-all : (first now : HalfParts) (from : Address) (ms : List Fields) (i : ℕ) (done : List Received) → drop i ms ≡ [] → SoFar first now from ms i done → HaveReceived (opened_parts first) from ms done (opened_parts now)
-so-far-all first now from ms i done none far =
-    subst (λ (es : List Received). HaveReceived (opened_parts first) from ms es (opened_parts now)) (append-nil done)
-    (far.goes [] (opened_parts now) (subst (λ (ns : List Fields). HaveReceived (opened_parts now) from ns [] (opened_parts now)) (sym none) (have-none (opened_parts now) from)))
-
 -- the client's parts, before any message
 abbrev pub begun : Parts → HalfParts
 begun p = record { channels = p.channels; circuits = p.circuits; opening = []; order = p.order; beacons = p.beacons }
-
--- and their circuits are opened, or not
-pub so-far-ends : (first : Parts) (now : HalfParts) (from : Address) (ms : List Fields) (i : ℕ) (done : Vec Received Global) (r : Result (Vec Received Global) AllocError) (new : Parts) → drop i ms ≡ [] → SoFar (begun first) now from ms i done.items → OpensOrUndoes now done r new → ReceivesAllIn first from ms r new
-so-far-ends first now from ms i done (Ok ds) new none far did =
-    subst (λ (es : List Received). HaveReceived first from ms es new) (sym (ap (λ (v : Vec Received Global). v.items) did.0))
-    (subst (HaveReceived first from ms done.items) (sym did.1) (so-far-all (begun first) now from ms i done.items none far))
-so-far-ends first now from ms i done (Err e) new none far did =
-    (far.some did.0, did.1 ∙ ap unopened_parts far.back)

@@ -12,7 +12,9 @@ use Rattle.ca_ids.specs.Table.{IsFull, MayGive, Table, under, with_all_held, wit
 use Rattle.ca_ids.specs.Wire.{wire_of}
 use Rattle.ca_search.specs.Searcher.{with_one}
 use Rattle.ca_search.specs.Searches.{paused}
+use Rattle.ca_wire.specs.declared.header.Header.{Header}
 use Rattle.ca_wire.specs.Fields.{Fields}
+use Rattle.ca_wire.specs.Message.{header_of}
 use Rattle.ca_wire.specs.Messages.{create_request}
 use Rattle.ca_model.specs.Client.{Channel, Client, ClientCircuit, Connecting, Creating, On, Searching, Standing, found_on, new_circuit}
 use Rattle.ca_model.specs.Ends.{Address}
@@ -29,6 +31,7 @@ use Rattle.ca_client_tables.proofs.Opened.{all-held-more, connected-there, openi
 use Rattle.ca_client_tables.proofs.Replies.{finds-connected, finds-full, finds-new, finds-none-new, finds-nothing, finds-out, finds-waiting, one-longer}
 use Rattle.ca_client_tables.proofs.Queued.{cut-messages}
 use Rattle.std.specs.FinMap as finite
+use Rattle.ca_requests.specs.Meaning.{message_of}
 use Rattle.ca_requests.specs.Requests.{Request}
 use Rattle.ca_monitor.specs.Subscriptions.{Subscription}
 
@@ -244,3 +247,9 @@ found-refused old new mid from m found values back t did are fills is =
     in-order : (o : Option Handle) (x : Client) → (paused_for o (with_tables (opened mid) x)).order ≡ mid.order
     in-order None x = refl
     in-order (Some h) x = refl
+
+-- ---- the reply is a message of a datagram
+
+pub found-header : (old new : Halfway) (from : Address) (m : Fields) (h : Header) (r : Result (Option Found) AllocError) → h ≡ header_of m → FindsOne old from (message_of h []) r new → FindsOne old from m r new
+found-header old new from m h (Ok found) is did = subst (λ (k : Header). FindsOne old from (message_of k []) (Ok found) new) is did
+found-header old new from m h (Err e) is did = subst (λ (k : Header). FindsOne old from (message_of k []) (Err e) new) is did

@@ -1,5 +1,4 @@
 pub mod Circuits
-pub mod Wanting
 pub mod Beginnings
 pub mod Ended
 pub mod Queued
@@ -15,7 +14,6 @@ pub mod Sifting
 pub mod Values
 pub mod Dues
 pub mod Firsts
-pub mod Foretold
 pub mod Noticed
 pub mod OnLists
 mod Opened

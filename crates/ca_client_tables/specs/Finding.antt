@@ -61,6 +61,10 @@ pub record Tables : Type 0 where
   pub circuits : Table ClientCircuit
   pub order : List Handle
 
+abbrev pub tables : Table Channel → Table ClientCircuit → List Handle → Tables
+tables channels circuits order =
+    record { channels = channels; circuits = circuits; order = order }
+
 abbrev pub tables_of : Client → Tables
 tables_of x = record { channels = x.channels; circuits = x.circuits; order = x.order }
 
@@ -75,6 +79,11 @@ pub record Halfway : Type 0 where
   pub circuits : Table ClientCircuit
   pub opening : List (Handle × ClientCircuit)
   pub order : List Handle
+
+abbrev pub halfway : Table Channel → Table ClientCircuit → List (Handle × ClientCircuit)
+    → List Handle → Halfway
+halfway channels circuits opening order =
+    record { channels = channels; circuits = circuits; opening = opening; order = order }
 
 -- once they are opened
 abbrev pub opened : Halfway → Tables

@@ -16,6 +16,5 @@ pub mod Marks
 pub mod Ahead
 pub mod Silences
 pub mod Packing
-pub mod Wanted
 pub mod Foretelling
 pub mod Noting

@@ -62,6 +62,10 @@ pub record Parts : Type 0 where
   pub order : List Handle
   pub beacons : Servers
 
+abbrev pub parts : Table Channel → Table ClientCircuit → List Handle → Servers → Parts
+parts channels circuits order beacons =
+    record { channels = channels; circuits = circuits; order = order; beacons = beacons }
+
 abbrev pub parts_of : Client → Parts
 parts_of x =
     record { channels = x.channels; circuits = x.circuits; order = x.order; beacons = x.beacons }
@@ -78,6 +82,17 @@ pub record HalfParts : Type 0 where
   pub opening : List (Handle × ClientCircuit)
   pub order : List Handle
   pub beacons : Servers
+
+abbrev pub half_parts : Table Channel → Table ClientCircuit → List (Handle × ClientCircuit)
+    → List Handle → Servers → HalfParts
+half_parts channels circuits opening order beacons =
+    record {
+      channels = channels;
+      circuits = circuits;
+      opening = opening;
+      order = order;
+      beacons = beacons;
+    }
 
 -- once they are opened
 abbrev pub opened_parts : HalfParts → Parts
@@ -173,9 +188,3 @@ HaveReceived old from ms ds new =
     (x : Client) → parts_of x ≡ old
     → (e : Effect) × ReceivesAll from x ms e × (e.notices ≡ [])
     × (e.core ≡ all_settled ds (with_parts new x))
-
--- They had; or there was no memory for one, and nothing is changed.
-abbrev pub ReceivesAllIn : Parts → Address → List Fields → Result (Vec Received Global) AllocError
-    → Parts → Type 0
-ReceivesAllIn old from ms (Ok ds) new = HaveReceived old from ms ds.items new
-ReceivesAllIn old from ms (Err _) new = (ms ≢ []) × (new ≡ old)

@@ -5,7 +5,7 @@ ghost use Rattle.ca_text.specs.Limits.{arena_slots};
 ghost use Rattle.ca_arena.specs.Arena.{place_at};
 ghost use Rattle.ca_ids.specs.Holding.{Gives};
 ghost use Rattle.ca_ids.specs.Table.{Table, by_wire, held_at, is_full, under, with_all};
-ghost use Rattle.ca_ids.specs.Table.{with_changed, with_freed};
+ghost use Rattle.ca_ids.specs.Table.{with_freed};
 ghost use Rattle.ca_ids.specs.Walks.{with_place};
 ghost use Rattle.ca_lists.specs.Lists.{Has, list_of};
 ghost use Rattle.ca_lists.specs.Walks.{AreListed, Covers};
@@ -13,6 +13,7 @@ ghost use Rattle.ca_model.specs.Client as client;
 ghost use Rattle.ca_model.specs.ClientEnds.{creating};
 ghost use Rattle.ca_client_tables.specs.Connecting.{creating_at};
 ghost use Rattle.ca_client_tables.specs.Ending.{EndsAll, sought};
+ghost use Rattle.ca_client_tables.specs.Finding.{stood};
 ghost use Rattle.ca_client_tables.specs.Forms.{standing_of};
 ghost use Rattle.ca_client_tables.specs.OnCircuits.{MayBeOn, circuit_of, indices_of, is_on_index};
 ghost use Rattle.ca_client_tables.specs.OnCircuits.{stood_on};
@@ -229,11 +230,7 @@ fn candidates<'a>(
 
 /// The channel of this handle is there from now on; a stale handle changes nothing.
 pub fn set_standing(channels: &mut Channels, handle: Handle, standing: Standing)
-    ensures { channels.new
-        ≡ with_changed
-        (λ here. record here { standing = standing_of standing })
-        handle
-        channels.old }
+    ensures { channels.new ≡ stood (standing_of standing) handle channels.old }
 {
     let before = circuit_under(&channels.table, handle);
     channels.complete &= list(&mut channels.circuits, standing, handle.index);
@@ -257,11 +254,7 @@ fn list(circuits: &mut IndexLists, standing: Standing, index: u16) -> bool
 
 /// The channel of this handle is there from now on.
 pub(crate) fn put(table: &mut HeldTable<Channel>, handle: Handle, standing: Standing)
-    ensures { table.new
-        ≡ with_changed
-        (λ here. record here { standing = standing_of standing })
-        handle
-        table.old }
+    ensures { table.new ≡ stood (standing_of standing) handle table.old }
 {
     if let Some(channel) = table.by_handle_mut(handle) {
         channel.set_standing(standing);

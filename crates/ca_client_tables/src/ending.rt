@@ -4,14 +4,13 @@ ghost use Rattle.ca_client_tables.specs.Ending.{StepsAll, StepsAt, again, back_a
 ghost use Rattle.ca_client_tables.specs.Ending.{is_kept, sought};
 ghost use Rattle.ca_client_tables.specs.OnCircuits.{MayBeOn, indices_of};
 ghost use Rattle.ca_client_tables.specs.Sound.{IsClient};
-ghost use Rattle.ca_ids.specs.Table.{with_changed};
 ghost use Rattle.ca_search.specs.Searcher.{with_one};
 ghost use Rattle.ca_search.specs.Searches.{resumed};
-ghost use Rattle.ca_model.specs.Client.{Searching, is_cleared};
+ghost use Rattle.ca_model.specs.Client.{is_cleared};
 
 use crate::candidates::Candidates;
 use crate::channel::{Channel, Standing};
-use crate::channels::{Channels, any_at, put, set_standing};
+use crate::channels::{any_at, put};
 use ca_arena::Handle;
 use ca_ids::{HeldTable, WireId};
 use ca_search::Place;
@@ -120,14 +119,6 @@ fn search_again_at(
     }
     put(channels, handle, Standing::Searching);
     resume(searches, WireId::of(handle).number(), moment);
-}
-
-/// The channel of this handle is searched for; a stale handle changes nothing.
-pub fn bring_back(channels: &mut Channels, handle: Handle)
-    ensures { channels.new
-        ≡ with_changed (λ here. record here { standing = Searching }) handle channels.old }
-{
-    set_standing(channels, handle, Standing::Searching);
 }
 
 /// The searches for this CID begin again, as from this moment.

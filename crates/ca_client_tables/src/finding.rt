@@ -1,15 +1,16 @@
 //! What the reply to a SEARCH does to the tables of a client.
-ghost use Rattle.std.specs.Prelude.{◌≡◌, ◌<◌, ◌≤◌, is_some, length, option_map};
+ghost use Rattle.std.specs.Prelude.{◌≡◌, ◌<◌, ◌≤◌, [], is_some, length, option_map};
 ghost use Rattle.ca_text.specs.Limits.{priority_limit};
 ghost use Rattle.ca_ids.specs.Table.{held_at, with_all_held};
 ghost use Rattle.ca_ids.specs.Wire.{wire_of};
 ghost use Rattle.ca_arena.specs.Arena.{place_at};
 ghost use Rattle.ca_search.specs.Searcher.{with_one};
 ghost use Rattle.ca_search.specs.Searches.{paused};
+ghost use Rattle.ca_requests.specs.Meaning.{message_of};
 ghost use Rattle.ca_model.specs.Hears.{found_at, is_searched};
 ghost use Rattle.ca_client_tables.specs.Finding.{CreatesIn, FindsIn, FindsOne, WantsNew};
-ghost use Rattle.ca_client_tables.specs.Finding.{circuit_in, first_to, goes_to, searched_in};
-ghost use Rattle.ca_client_tables.specs.Finding.{undone, unopened};
+ghost use Rattle.ca_client_tables.specs.Finding.{circuit_in, first_to, goes_to, halfway};
+ghost use Rattle.ca_client_tables.specs.Finding.{searched_in, tables, undone, unopened};
 ghost use Rattle.ca_client_tables.specs.Opening.{AreOpening};
 
 use crate::beginning::is_same;
@@ -22,7 +23,7 @@ use crate::undoing::lose;
 use ca_arena::Handle;
 use ca_ids::{HeldTable, WireId};
 use ca_search::Place;
-use ca_wire::Message;
+use ca_wire::{Header, Message};
 use indexmap::IndexMap;
 use std::alloc::{AllocError, Global};
 
@@ -60,14 +61,14 @@ pub fn find(
     circuits: &mut HeldTable<ClientCircuit>,
     order: &mut Vec<Handle>,
     from: Address,
-    message: &Message,
+    reply: &Header,
 ) -> Result<Option<Handle>, AllocError>
     ensures { FindsIn
-        (record { channels = channels.old; circuits = circuits.old; order = order.old.items })
+        (tables channels.old circuits.old order.old.items)
         from
-        message.now
+        (message_of reply.now [])
         result
-        (record { channels = channels.new; circuits = circuits.new; order = order.new.items }) }
+        (tables channels.new circuits.new order.new.items) }
 {
     let mut opening = Vec::new(alloc);
     let found = find_one(
@@ -77,7 +78,7 @@ pub fn find(
         &mut opening,
         order,
         from,
-        message,
+        reply,
     )?;
     match circuits.open_all(opening) {
         Ok(()) => match found {
@@ -99,16 +100,9 @@ fn lose_found(
     order: &mut Vec<Handle>,
     found: Option<Found>,
 )
-    ensures { (record {
-      channels = channels.new;
-      circuits = circuits.new;
-      order = order.new.items;
-    }) ≡ unopened (undone found (record {
-      channels = channels.old;
-      circuits = circuits.old;
-      opening = opening.items;
-      order = order.old.items;
-    })) }
+    ensures { tables channels.new circuits.new order.new.items
+        ≡ unopened (undone found
+        (halfway channels.old circuits.old opening.items order.old.items)) }
 {
     if let Some(found) = found {
         lose(channels, circuits, &mut opening, order, found);
@@ -124,32 +118,22 @@ pub(crate) fn find_one(
     opening: &mut Vec<(Handle, ClientCircuit)>,
     order: &mut Vec<Handle>,
     from: Address,
-    message: &Message,
+    reply: &Header,
 ) -> Result<Option<Found>, AllocError>
     requires { AreOpening opening.old.items circuits.old }
     ensures finds { FindsOne
-        (record {
-          channels = channels.old;
-          circuits = circuits.old;
-          opening = opening.old.items;
-          order = order.old.items;
-        })
+        (halfway channels.old circuits.old opening.old.items order.old.items)
         from
-        message.now
+        (message_of reply.now [])
         result
-        (record {
-          channels = channels.new;
-          circuits = circuits.new;
-          opening = opening.new.items;
-          order = order.new.items;
-        }) }
+        (halfway channels.new circuits.new opening.new.items order.new.items) }
     ensures opening { AreOpening opening.new.items circuits.new }
 {
-    let Some((channel, found)) = searched_by(channels, message.p2()) else {
+    let Some((channel, found)) = searched_by(channels, reply.p2) else {
         return Ok(None);
     };
     let priority = found.priority();
-    let address = found_at(from, message);
+    let address = found_at(from, reply);
     match circuit_to(circuits, opening, address, priority) {
         None => want_new(
             channels, circuits, opening, order, address, priority, channel,
@@ -193,22 +177,12 @@ fn want_new(
 ) -> Result<Option<Found>, AllocError>
     requires { priority ≤ priority_limit }
     ensures { WantsNew
-        (record {
-          channels = channels.old;
-          circuits = circuits.now;
-          opening = opening.old.items;
-          order = order.old.items;
-        })
+        (halfway channels.old circuits.now opening.old.items order.old.items)
         address
         priority
         channel
         result
-        (record {
-          channels = channels.new;
-          circuits = circuits.now;
-          opening = opening.new.items;
-          order = order.new.items;
-        }) }
+        (halfway channels.new circuits.now opening.new.items order.new.items) }
 {
     let Ok(vacant) = circuits.vacant_after(opening) else {
         return Err(AllocError);
@@ -281,17 +255,17 @@ fn pause(searches: &mut IndexMap<u32, Place>, cid: u32)
 }
 
 // Where the server of a search reply is: at the address in it, or where the reply came from.
-pub(crate) fn found_at(from: Address, message: &Message) -> Address
-    ensures { result ≡ found_at from message.now }
+pub(crate) fn found_at(from: Address, reply: &Header) -> Address
+    ensures { result ≡ found_at from (message_of reply.now []) }
 {
-    let host = if message.p1() == NO_ADDRESS {
+    let host = if reply.p1 == NO_ADDRESS {
         from.host
     } else {
-        message.p1()
+        reply.p1
     };
     Address {
         host,
-        port: message.data_type(),
+        port: reply.data_type,
     }
 }
 

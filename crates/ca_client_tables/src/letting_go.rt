@@ -81,17 +81,10 @@ fn left_of(alloc: Global, connection: Option<Connection>) -> Pipe
     ensures { result ≡ unwrap_or (option_map (λ e. e.link.output) connection) [] }
 {
     match connection {
-        Some(connection) => connection.into_left(),
+        Some(connection) => {
+            let Connection { link, .. } = connection;
+            link.into_left()
+        }
         None => Pipe::new(alloc),
-    }
-}
-
-impl Connection {
-    // The bytes that waited on it.
-    fn into_left(self) -> Pipe
-        ensures { result ≡ self.link.output }
-    {
-        let Connection { link, .. } = self;
-        link.into_left()
     }
 }

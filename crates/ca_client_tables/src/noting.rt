@@ -4,6 +4,7 @@ ghost use Rattle.std.specs.Prelude.{◌≡◌, ◌+◌, ◌≤◌, IfOk, vec_cap
 ghost use Rattle.ca_ids.specs.Table.{with_all_held};
 ghost use Rattle.ca_client_tables.specs.Noting.{NotesAll, NotesOne, creation_in};
 ghost use Rattle.ca_client_tables.specs.Opening.{AreOpening};
+ghost use Rattle.ca_client_tables.specs.Receiving.{half_parts, parts};
 
 use crate::channels::Channels;
 use crate::circuit::ClientCircuit;
@@ -27,10 +28,10 @@ pub struct Noted {
     pub sent: Vec<Creation>,
 }
 
-/// The messages of a datagram from this address were received, one after another, as by
-/// `receive_all`, and what they sent was noted. Only a message takes memory. Without
-/// memory nothing changes.
-pub fn receive_all_noting(
+/// The messages of a datagram from this address were received, one after another, and what they
+/// sent was noted; the searches are still to follow. Only a message takes memory. Without memory
+/// nothing changes.
+pub fn receive_all(
     alloc: Global,
     channels: &mut Channels,
     circuits: &mut HeldTable<ClientCircuit>,
@@ -40,21 +41,11 @@ pub fn receive_all_noting(
     messages: &[Message],
 ) -> Result<Noted, AllocError>
     ensures { NotesAll
-        (record {
-          channels = channels.old;
-          circuits = circuits.old;
-          order = order.old.items;
-          beacons = beacons.old;
-        })
+        (parts channels.old circuits.old order.old.items beacons.old)
         from
         messages.now
         result
-        (record {
-          channels = channels.new;
-          circuits = circuits.new;
-          order = order.new.items;
-          beacons = beacons.new;
-        }) }
+        (parts channels.new circuits.new order.new.items beacons.new) }
 {
     let mut done = Vec::new(alloc);
     let mut sent = Vec::new(alloc);
@@ -101,25 +92,13 @@ fn receive_noting(
     requires room { vec_len sent.old + 1 ≤ vec_capacity sent.old }
     requires opening { AreOpening opening.old.items circuits.old }
     ensures notes { NotesOne
-        (record {
-          channels = channels.old;
-          circuits = circuits.old;
-          opening = opening.old.items;
-          order = order.old.items;
-          beacons = beacons.old;
-        })
+        (half_parts channels.old circuits.old opening.old.items order.old.items beacons.old)
         from
         message.now
         sent.old.items
         result
         sent.new.items
-        (record {
-          channels = channels.new;
-          circuits = circuits.new;
-          opening = opening.new.items;
-          order = order.new.items;
-          beacons = beacons.new;
-        }) }
+        (half_parts channels.new circuits.new opening.new.items order.new.items beacons.new) }
     ensures opening { AreOpening opening.new.items circuits.new }
     ensures capacity { vec_capacity sent.new ≡ vec_capacity sent.old }
 {
@@ -147,7 +126,8 @@ fn sent_by(
         ≡ creation_in channels.now (with_all_held opening.now circuits.now) from message.now) }
 {
     if message.command() == Command::Search.number() {
-        return creation_by(alloc, channels, circuits, opening, from, message);
+        let reply = message.header();
+        return creation_by(alloc, channels, circuits, opening, from, &reply);
     }
     Ok(None)
 }

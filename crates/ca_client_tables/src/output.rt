@@ -1,9 +1,10 @@
-//! The bytes that wait on a circuit.
+//! The bytes that wait on a circuit, and how what was sent is taken back.
 ghost use Rattle.std.specs.Prelude.{◌≡◌, ◌≤◌, length};
-ghost use Rattle.ca_client_tables.specs.Ends.{cut_back, cut_end, cut_in, handed, waiting_in};
-ghost use Rattle.ca_link.specs.Link.{with_handed};
+ghost use Rattle.ca_client_tables.specs.Ends.{cut_in, handed, waiting_in};
+ghost use Rattle.ca_client_tables.specs.Marks.{in_restored, mark_in};
 
-use crate::circuit::{ClientCircuit, Connection};
+use crate::circuit::ClientCircuit;
+use ca_link::Mark;
 
 impl ClientCircuit {
     /// Only the first n of the bytes still wait.
@@ -11,7 +12,7 @@ impl ClientCircuit {
         ensures { self.new ≡ cut_in n self.old }
     {
         if let Some(connection) = &mut self.connection {
-            connection.cut_back(n);
+            connection.link.truncate(n);
         }
     }
 
@@ -20,7 +21,7 @@ impl ClientCircuit {
         ensures { result.now ≡ waiting_in self.now }
     {
         match &self.connection {
-            Some(connection) => connection.out_bytes(),
+            Some(connection) => connection.link.out_bytes(),
             None => &[],
         }
     }
@@ -31,28 +32,29 @@ impl ClientCircuit {
         ensures { self.new ≡ handed n self.old }
     {
         if let Some(connection) = &mut self.connection {
-            connection.sent(n);
+            connection.link.sent(n);
         }
     }
-}
 
-impl Connection {
-    fn cut_back(&mut self, n: usize)
-        ensures { self.new ≡ cut_end n self.old }
+    /// How its end is; without one there is nothing to take back.
+    pub fn mark(&self) -> Mark
+        ensures { result ≡ mark_in self.now }
     {
-        self.link.truncate(n);
+        match &self.connection {
+            Some(connection) => connection.link.mark(),
+            None => Mark {
+                waiting: 0,
+                echoed: false,
+            },
+        }
     }
 
-    fn out_bytes(&self) -> &[u8]
-        ensures { result.now ≡ self.now.link.output }
+    /// Its end is as it was at this mark.
+    pub fn restore(&mut self, mark: Mark)
+        ensures { self.new ≡ in_restored mark self.old }
     {
-        self.link.out_bytes()
-    }
-
-    fn sent(&mut self, n: usize)
-        requires { n ≤ length self.old.link.output }
-        ensures { self.new ≡ record self.old { link = with_handed n self.old.link } }
-    {
-        self.link.sent(n);
+        if let Some(connection) = &mut self.connection {
+            connection.link.restore(mark);
+        }
     }
 }

@@ -1,10 +1,9 @@
 //! Messages that wait on a circuit.
-ghost use Rattle.std.specs.Prelude.{◌≡◌, ◌∷◌, [], IsSome, OnErr, OnOk, length};
+ghost use Rattle.std.specs.Prelude.{◌≡◌, IsSome, OnErr, OnOk, length};
 ghost use Rattle.ca_ids.specs.Table.{with_changed};
-ghost use Rattle.ca_link.specs.Link.{with_sent};
 ghost use Rattle.ca_client_tables.specs.Ends.{left_at, queued};
 
-use crate::circuit::{ClientCircuit, Connection};
+use crate::circuit::ClientCircuit;
 use ca_arena::Handle;
 use ca_ids::HeldTable;
 use ca_wire::Message;
@@ -48,19 +47,7 @@ impl ClientCircuit {
         let Some(connection) = &mut self.connection else {
             return Ok(());
         };
-        connection.queue(message)?;
-        Ok(())
-    }
-}
-
-impl Connection {
-    // Puts a message after what waits.
-    fn queue(&mut self, message: &Message) -> Result<(), AllocError>
-        ensures ok { OnOk result (self.new
-            ≡ record self.old { link = with_sent (message.now ∷ []) self.old.link }) }
-        ensures err { OnErr result (self.new ≡ self.old) }
-    {
-        if self.link.queue_own(message).is_err() {
+        if connection.link.queue_own(message).is_err() {
             return Err(AllocError);
         }
         Ok(())

@@ -2,15 +2,14 @@
 ghost use Rattle.std.specs.Prelude.{◌≡◌, ℕ};
 ghost use Rattle.ca_text.specs.declared.command.Command.TheVariants as command;
 ghost use Rattle.ca_client_tables.specs.Opening.{AreOpening};
-ghost use Rattle.ca_client_tables.specs.Receiving.{HearsIn, ReceivesAllIn, ReceivesIn};
-ghost use Rattle.ca_client_tables.specs.Receiving.{all_settled_in, boosted_if, settled_in};
+ghost use Rattle.ca_client_tables.specs.Receiving.{HearsIn, ReceivesIn, all_settled_in};
+ghost use Rattle.ca_client_tables.specs.Receiving.{boosted_if, half_parts, settled_in};
 
 use crate::beacons::{Beacon, beacon_port, hear_beacon};
 use crate::channels::Channels;
 use crate::circuit::ClientCircuit;
 use crate::ends::Address;
 use crate::finding::{Found, find_one, pause_found};
-use crate::undoing::{open_or_undo, undo_all};
 use ca_arena::Handle;
 use ca_beacon::BeaconTable;
 use ca_ids::HeldTable;
@@ -31,59 +30,6 @@ pub enum Received {
     Beacon(Beacon),
 }
 
-/// The messages of a datagram from this address were received, one after another; the searches are
-/// still to follow. Without memory nothing changes.
-pub fn receive_all(
-    alloc: Global,
-    channels: &mut Channels,
-    circuits: &mut HeldTable<ClientCircuit>,
-    order: &mut Vec<Handle>,
-    beacons: &mut BeaconTable,
-    from: Address,
-    messages: &[Message],
-) -> Result<Vec<Received>, AllocError>
-    ensures { ReceivesAllIn
-        (record {
-          channels = channels.old;
-          circuits = circuits.old;
-          order = order.old.items;
-          beacons = beacons.old;
-        })
-        from
-        messages.now
-        result
-        (record {
-          channels = channels.new;
-          circuits = circuits.new;
-          order = order.new.items;
-          beacons = beacons.new;
-        }) }
-{
-    let mut done = Vec::new(alloc);
-    let mut opening = Vec::new(alloc);
-    done.reserve(messages.len())?;
-    for index in 0..messages.len() {
-        let message = &messages[index];
-        match receive(
-            alloc,
-            channels,
-            circuits,
-            &mut opening,
-            order,
-            beacons,
-            from,
-            message,
-        ) {
-            Ok(received) => done.push_reserved(received),
-            Err(_) => {
-                undo_all(channels, circuits, &mut opening, order, beacons, done);
-                return Err(AllocError);
-            }
-        }
-    }
-    open_or_undo(channels, circuits, opening, order, beacons, done)
-}
-
 // A message of a datagram from this address was received; the searches are still to follow. Without
 // memory nothing changes.
 pub(crate) fn receive(
@@ -98,28 +44,17 @@ pub(crate) fn receive(
 ) -> Result<Received, AllocError>
     requires { AreOpening opening.old.items circuits.old }
     ensures receives { ReceivesIn
-        (record {
-          channels = channels.old;
-          circuits = circuits.old;
-          opening = opening.old.items;
-          order = order.old.items;
-          beacons = beacons.old;
-        })
+        (half_parts channels.old circuits.old opening.old.items order.old.items beacons.old)
         from
         message.now
         result
-        (record {
-          channels = channels.new;
-          circuits = circuits.new;
-          opening = opening.new.items;
-          order = order.new.items;
-          beacons = beacons.new;
-        }) }
+        (half_parts channels.new circuits.new opening.new.items order.new.items beacons.new) }
     ensures opening { AreOpening opening.new.items circuits.new }
 {
     let command = message.command();
     if command == Command::Search.number() {
-        return match find_one(alloc, channels, circuits, opening, order, from, message) {
+        let reply = message.header();
+        return match find_one(alloc, channels, circuits, opening, order, from, &reply) {
             Ok(Some(found)) => Ok(Received::Found(found)),
             Ok(None) => Ok(Received::Nothing),
             Err(refused) => Err(refused),

@@ -1,9 +1,8 @@
 //! What the silence of a circuit asks of its end, and its ECHO.
 ghost use Rattle.std.specs.Prelude.{◌≡◌, ◌<◌, IsSome, OnErr, OnOk, Some};
-ghost use Rattle.ca_link.specs.Link.{kept};
-ghost use Rattle.ca_client_tables.specs.Silences.{asked_in, echo_end, echo_in};
+ghost use Rattle.ca_client_tables.specs.Silences.{asked_in, echo_in};
 
-use crate::circuit::{ClientCircuit, Connection};
+use crate::circuit::ClientCircuit;
 use ca_link::Keep;
 use ca_text::Command;
 use ca_wire::header_only;
@@ -15,7 +14,7 @@ impl ClientCircuit {
         ensures { result ≡ asked_in moment self.now.connection }
     {
         match &self.connection {
-            Some(connection) => connection.asked(moment),
+            Some(connection) => connection.link.asked(moment),
             None => Keep::Idle,
         }
     }
@@ -30,32 +29,11 @@ impl ClientCircuit {
         let Some(connection) = &mut self.connection else {
             return Ok(());
         };
-        connection.echo(alloc, moment)?;
-        Ok(())
-    }
-}
-
-impl Connection {
-    // What this moment asks of it.
-    fn asked(&self, moment: u64) -> Keep
-        ensures { result ≡ kept moment self.now.link }
-    {
-        self.link.asked(moment)
-    }
-
-    // An ECHO waits.
-    fn echo(&mut self, alloc: Global, moment: u64) -> Result<(), AllocError>
-        ensures ok { OnOk result (self.new ≡ echo_end moment self.old) }
-        ensures err { OnErr result (self.new ≡ self.old) }
-    {
-        if self
-            .link
-            .queue_own(&header_only(alloc, Command::Echo))
-            .is_err()
-        {
+        let echo = header_only(alloc, Command::Echo);
+        if connection.link.queue_own(&echo).is_err() {
             return Err(AllocError);
         }
-        let _asked = self.link.tick(moment);
+        let _asked = connection.link.tick(moment);
         Ok(())
     }
 }

@@ -2,13 +2,14 @@
 ghost use Rattle.std.specs.Prelude.{◌≡◌};
 ghost use Rattle.ca_ids.specs.Table.{with_changed};
 ghost use Rattle.ca_client_tables.specs.Ends.{cut_in};
-ghost use Rattle.ca_client_tables.specs.Finding.{found_undone};
-ghost use Rattle.ca_client_tables.specs.Receiving.{OpensOrUndoes, all_undone, received_undone};
+ghost use Rattle.ca_client_tables.specs.Finding.{found_undone, halfway};
+ghost use Rattle.ca_client_tables.specs.Receiving.{OpensOrUndoes, all_undone, half_parts, parts};
+ghost use Rattle.ca_client_tables.specs.Receiving.{received_undone};
 
 use crate::beacons::forget_beacon;
-use crate::channels::Channels;
+use crate::channel::Standing;
+use crate::channels::{Channels, set_standing};
 use crate::circuit::ClientCircuit;
-use crate::ending::bring_back;
 use crate::finding::{Found, How};
 use crate::receiving::Received;
 use ca_arena::Handle;
@@ -27,21 +28,10 @@ pub(crate) fn open_or_undo(
     done: Vec<Received>,
 ) -> Result<Vec<Received>, AllocError>
     ensures { OpensOrUndoes
-        (record {
-          channels = channels.old;
-          circuits = circuits.old;
-          opening = opening.items;
-          order = order.old.items;
-          beacons = beacons.old;
-        })
+        (half_parts channels.old circuits.old opening.items order.old.items beacons.old)
         done
         result
-        (record {
-          channels = channels.new;
-          circuits = circuits.new;
-          order = order.new.items;
-          beacons = beacons.new;
-        }) }
+        (parts channels.new circuits.new order.new.items beacons.new) }
 {
     match circuits.open_all(opening) {
         Ok(()) => Ok(done),
@@ -61,19 +51,9 @@ pub(crate) fn undo_all(
     beacons: &mut BeaconTable,
     mut done: Vec<Received>,
 )
-    ensures { (record {
-      channels = channels.new;
-      circuits = circuits.new;
-      opening = opening.new.items;
-      order = order.new.items;
-      beacons = beacons.new;
-    }) ≡ all_undone done.items (record {
-      channels = channels.old;
-      circuits = circuits.old;
-      opening = opening.old.items;
-      order = order.old.items;
-      beacons = beacons.old;
-    }) }
+    ensures { half_parts channels.new circuits.new opening.new.items order.new.items beacons.new
+        ≡ all_undone done.items
+        (half_parts channels.old circuits.old opening.old.items order.old.items beacons.old) }
 {
     while let Some(received) = done.pop() {
         undo(channels, circuits, opening, order, beacons, received);
@@ -89,19 +69,9 @@ fn undo(
     beacons: &mut BeaconTable,
     received: Received,
 )
-    ensures { (record {
-      channels = channels.new;
-      circuits = circuits.new;
-      opening = opening.new.items;
-      order = order.new.items;
-      beacons = beacons.new;
-    }) ≡ received_undone received (record {
-      channels = channels.old;
-      circuits = circuits.old;
-      opening = opening.old.items;
-      order = order.old.items;
-      beacons = beacons.old;
-    }) }
+    ensures { half_parts channels.new circuits.new opening.new.items order.new.items beacons.new
+        ≡ received_undone received
+        (half_parts channels.old circuits.old opening.old.items order.old.items beacons.old) }
 {
     match received {
         Received::Nothing => {}
@@ -118,19 +88,11 @@ pub(crate) fn lose(
     order: &mut Vec<Handle>,
     found: Found,
 )
-    ensures { (record {
-      channels = channels.new;
-      circuits = circuits.new;
-      opening = opening.new.items;
-      order = order.new.items;
-    }) ≡ found_undone found (record {
-      channels = channels.old;
-      circuits = circuits.old;
-      opening = opening.old.items;
-      order = order.old.items;
-    }) }
+    ensures { halfway channels.new circuits.new opening.new.items order.new.items
+        ≡ found_undone found
+        (halfway channels.old circuits.old opening.old.items order.old.items) }
 {
-    bring_back(channels, found.channel);
+    set_standing(channels, found.channel, Standing::Searching);
     match found.how {
         How::Waits => {}
         How::Created(waiting) => cut_on(circuits, found.circuit, waiting),

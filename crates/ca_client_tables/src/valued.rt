@@ -1,12 +1,11 @@
 //! A value as the payload of a write.
-ghost use Rattle.std.specs.Prelude.{◌≡◌, ◌∷◌, [], IsSome, OnErr, OnOk, ◌<◌, ◌^◌, length};
+ghost use Rattle.std.specs.Prelude.{◌≡◌, IsSome, OnErr, OnOk, ◌<◌, ◌^◌, length};
 ghost use Rattle.ca_dbr.specs.Elements.{bytes_of, elements, count_of};
-ghost use Rattle.ca_link.specs.Link.{with_sent};
 ghost use Rattle.ca_wire.specs.Made.{with_payload};
 ghost use Rattle.ca_client_tables.specs.Ends.{queued};
 ghost use Rattle.ca_client_tables.specs.Puts.{IsSmall};
 
-use crate::circuit::{ClientCircuit, Connection};
+use crate::circuit::ClientCircuit;
 use ca_dbr::{Meta, Value, write_value};
 use ca_text::Refusal;
 use ca_wire::{Message, Payload};
@@ -47,30 +46,15 @@ impl ClientCircuit {
         let Some(connection) = &mut self.connection else {
             return Ok(());
         };
-        connection.queue_value(head, value)?;
-        Ok(())
-    }
-}
-
-impl Connection {
-    // Puts a message with this value after what waits.
-    fn queue_value(&mut self, head: &Message, value: &Value) -> Result<(), AllocError>
-        requires { IsSmall (elements value.now) }
-        ensures ok { OnOk result (self.new
-            ≡ record self.old {
-              link = with_sent
-                  (with_payload (bytes_of (elements value.now)) head.now ∷ [])
-                  self.old.link;
-            }) }
-        ensures err { OnErr result (self.new ≡ self.old) }
-    {
-        match self
+        let payload = Elements { value };
+        if connection
             .link
-            .queue_made(head, size_of(value), &Elements { value })
+            .queue_made(head, size_of(value), &payload)
+            .is_err()
         {
-            Ok(()) => Ok(()),
-            Err(_) => Err(AllocError),
+            return Err(AllocError);
         }
+        Ok(())
     }
 }
 

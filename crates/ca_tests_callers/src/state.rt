@@ -8,6 +8,7 @@ mod faults;
 pub(crate) mod growths;
 mod requests;
 mod silence;
+mod tape;
 
 use crate::state::circuit::{live, memory, turn};
 use crate::state::faults::{lost, lost_at};

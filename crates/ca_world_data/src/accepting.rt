@@ -2,8 +2,9 @@
 //! takes such a call back.
 ghost use Rattle.std.specs.Prelude.{◌≡◌, ◌<◌, ◌≤◌, ◌+◌, [], IfOk, OnOk, length, map};
 ghost use Rattle.std.specs.Prelude.{option_and_then, replicate, slice_set};
-ghost use Rattle.ca_client_core.specs.ForAccepts.{connecting_sent, wanted_in_place};
+ghost use Rattle.ca_client_core.specs.ForAccepts.{connecting_sent};
 ghost use Rattle.ca_client_core.specs.ForHistories.{sending_of};
+ghost use Rattle.ca_client_core.specs.Wanted.{wanted_in_place};
 ghost use Rattle.ca_queue.specs.Queue.{no_queue};
 ghost use Rattle.ca_text.specs.Limits.{circuit_queues};
 ghost use Rattle.ca_model.specs.Client.{farewell};
@@ -43,7 +44,7 @@ use crate::sending::intent_for;
 use crate::server::ServerSide;
 use crate::telling::tell_all;
 use ca_arena::Handle;
-use ca_client_core::for_accepts::{circuits_listed, sent_when_connected, wanted_at};
+use ca_client_core::for_accepts::sent_when_connected;
 use ca_client_core::for_histories::Sending;
 use ca_client_core::{Address, ClientCore, WantedCircuit};
 use ca_queue::{ListQueue, Queues};
@@ -56,7 +57,7 @@ use std::alloc::{AllocError, Global};
 pub fn first_served(core: &ClientCore, servers: &[ServerSide]) -> Option<(WantedCircuit, usize)>
     ensures { result ≡ first_served servers.now (wanted core.now) }
 {
-    for place in 0..circuits_listed(core) {
+    for place in 0..core.circuits_listed() {
         if let Some(found) = served_at(core, servers, place) {
             return Some(found);
         }
@@ -73,7 +74,7 @@ fn served_at(
     requires { place < length core.now.order }
     ensures { result ≡ option_and_then (served servers.now) (wanted_in_place core.now place) }
 {
-    let Some(wanted) = wanted_at(core, place) else {
+    let Some(wanted) = core.wanted_at(place) else {
         return None;
     };
     let server = server_at(servers, wanted.address);

@@ -1,6 +1,7 @@
 //! A circuit whose socket is in memory.
+use crate::state::tape::Tape;
 use ca_arena::Handle;
-use ca_client::{ClientState, CoreCall, Tape, step_under_lock, turn_over};
+use ca_client::{ClientState, CoreCall, step_under_lock, turn_over};
 use ca_client_core::Address;
 use ca_text::Refusal;
 use std::alloc::Global;
@@ -52,8 +53,7 @@ pub(crate) fn live(state: &mut ClientState, tape: &mut Tape) -> Result<Handle, R
 
 /// The first circuit that is wanted.
 fn wanted(state: &ClientState) -> Result<Handle, Refusal> {
-    let wanted = state.core().wanted()?;
-    match wanted.first() {
+    match state.core().wanted(0) {
         Some(first) => Ok(first.circuit),
         None => Err(Refusal::NotLive),
     }

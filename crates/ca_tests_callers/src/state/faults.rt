@@ -1,9 +1,10 @@
 //! A socket that fails.
 use crate::state::circuit::{VERSION, live, memory, turn};
 use crate::state::requests::MadeRequests;
+use crate::state::tape::Tape;
 use ca_arena::Handle;
 use ca_board::Ticket;
-use ca_client::{Caller, ClientState, Tape, issue_under_lock};
+use ca_client::{Caller, ClientState, issue_under_lock};
 use ca_dbr::Outcome;
 use ca_text::Refusal;
 use std::alloc::Global;

@@ -5,9 +5,10 @@ use crate::state::circuit::{FOUND, SERVER, memory};
 use crate::state::faults::is_lost;
 use crate::state::new_state;
 use crate::state::requests::{MANY, MadeRequests, done_reply, is_done, make_requests};
+use crate::state::tape::Tape;
 use ca_arena::Handle;
 use ca_client::{
-    Answer, Caller, ClientState, CoreCall, RequestCall, Tape, issue_under_lock, step_under_lock,
+    Answer, Caller, ClientState, CoreCall, RequestCall, issue_under_lock, step_under_lock,
     turn_over,
 };
 use ca_client_core::{Notice, Notices};
@@ -123,12 +124,7 @@ impl Course {
     }
 
     fn connected(&mut self) -> Result<Option<Handle>, Refusal> {
-        let wanted = twice(
-            &mut self.state,
-            &mut self.refused,
-            |state| Ok(state.core().wanted()?),
-        )?;
-        let Some(first) = wanted.first() else {
+        let Some(first) = self.state.core().wanted(0) else {
             return Err(Refusal::BadEvent);
         };
         let circuit = first.circuit;

@@ -1,10 +1,9 @@
 //! Requests, by the cells that they use.
 use crate::state::circuit::turn;
+use crate::state::tape::Tape;
 use ca_arena::Handle;
 use ca_board::Ticket;
-use ca_client::{
-    Caller, ClientState, CoreCall, RequestCall, Tape, issue_under_lock, step_under_lock,
-};
+use ca_client::{Caller, ClientState, CoreCall, RequestCall, issue_under_lock, step_under_lock};
 use ca_dbr::{Outcome, Value};
 use ca_text::Refusal;
 use std::alloc::Global;

@@ -1,7 +1,9 @@
-use Rattle.std.proofs.Common.{None, Ok, Option, Some, rules, subst}
+use Rattle.std.proofs.Common.{[], None, Ok, Option, Some, rules, subst}
+use Rattle.ca_requests.specs.Meaning.{message_of}
 use Rattle.ca_client_tables.specs.Finding.{FindsOne, Halfway}
 use Rattle.ca_client_tables.specs.Receiving.{HalfParts, tables_in}
 use Rattle.ca_client_tables.specs.declared.finding.Found.{Found}
+use Rattle.ca_client_tables.proofs.Finds.{found-header}
 use Rattle.ca_client_tables.proofs.Arrivals.{beacon-received, reply-received, skipped}
 use Rattle.ca_client_tables.proofs.receiving.receive.Goals as goal
 
@@ -12,7 +14,8 @@ returns-in-Ok-Some c =
     record {
       receives =
           reply-received old c.args.from c.args.message.now (Some c.in-Ok-Some.found) t (search rules)
-          (subst (λ (o : Option Found). FindsOne (tables_in old) c.args.from c.args.message.now (Ok o) t) c.in-Ok-Some.field-0-is c.in-Ok-Some.ensures.finds);
+          (found-header (tables_in old) t c.args.from c.args.message.now c.header-reply.result (Ok (Some c.in-Ok-Some.found)) c.header-reply.ensures.header
+          (subst (λ (o : Option Found). FindsOne (tables_in old) c.args.from (message_of c.header-reply.result []) (Ok o) t) c.in-Ok-Some.field-0-is c.in-Ok-Some.ensures.finds));
       opening = c.in-Ok-Some.ensures.opening;
     }
 
@@ -23,7 +26,8 @@ returns-in-Ok-None c =
     record {
       receives =
           reply-received old c.args.from c.args.message.now None t (search rules)
-          (subst (λ (o : Option Found). FindsOne (tables_in old) c.args.from c.args.message.now (Ok o) t) c.in-Ok-None.field-0-is c.in-Ok-None.ensures.finds);
+          (found-header (tables_in old) t c.args.from c.args.message.now c.header-reply.result (Ok None) c.header-reply.ensures.header
+          (subst (λ (o : Option Found). FindsOne (tables_in old) c.args.from (message_of c.header-reply.result []) (Ok o) t) c.in-Ok-None.field-0-is c.in-Ok-None.ensures.finds));
       opening = c.in-Ok-None.ensures.opening;
     }
 

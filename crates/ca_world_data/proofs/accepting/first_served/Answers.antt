@@ -1,7 +1,7 @@
 use Rattle.std.proofs.Common.{ℕ, ◌+◌, ◌<◌, List, Option, ap, arith, drop, length, sym, ◌∙◌}
 use Rattle.std.specs.Prelude.{filter_map}
 use Rattle.ca_arena.specs.declared.handle.Handle.{Handle}
-use Rattle.ca_client_core.specs.ForAccepts.{wanted_circuit}
+use Rattle.ca_client_core.specs.Wanted.{wanted_circuit}
 use Rattle.ca_model.specs.ClientCalls.{WantedCircuit}
 use Rattle.ca_world_data.specs.declared.server.ServerSide.{ServerSide}
 use Rattle.ca_world_data.specs.Accepting.{first_served, first_there}

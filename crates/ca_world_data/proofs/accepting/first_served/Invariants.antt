@@ -1,6 +1,6 @@
 use Rattle.std.proofs.Common.{◌≡◌, drop}
 use Rattle.std.specs.Prelude.{filter_map}
-use Rattle.ca_client_core.specs.ForAccepts.{wanted_circuit}
+use Rattle.ca_client_core.specs.Wanted.{wanted_circuit}
 use Rattle.ca_model.specs.ClientCalls.{wanted}
 use Rattle.ca_world_data.specs.Accepting.{first_served}
 use Rattle.ca_world_data.proofs.accepting.first_served.Given as goal

@@ -1,6 +1,4 @@
-use Rattle.std.proofs.Common.{◌≡◌, ◌∙◌, Err, None, Ok, Option, Some, ap, subst, sym}
-use Rattle.ca_wire.specs.Fields.{Fields}
-use Rattle.ca_client_core.specs.Hearing.{FindsOr}
+use Rattle.std.proofs.Common.{◌≡◌, ◌∙◌, None, Ok, Option, Some, ap, sym}
 use Rattle.ca_ids.specs.Table.{under}
 use Rattle.ca_model.specs.Client.{Client, ClientCircuit}
 use Rattle.ca_client_core.specs.First.{first_on}
@@ -26,7 +24,7 @@ returns-in_err-hear_found c =
     let new = c.hear_found.new.self in
     let there : under y.circuits h ≡ Some d = ap (λ (z : Client). under z.circuits h) (sym c.self.view_is) ∙ sym c.in-Some.ensures in
     heard-first x h c.args.head.now c.from_residual.result y new c.take.ensures
-    (search-out y h d from m error c.from_residual.result new c.requires.command there (ap (λ (e : ClientCircuit). e.address) c.found.view_is) (subst (λ (r : Fields). FindsOr y from r (Err error) new) c.with_header-reply.ensures c.in_err-hear_found.ensures) c.from_residual.ensures.0)
+    (search-out y h d from m error c.from_residual.result new c.requires.command there (ap (λ (e : ClientCircuit). e.address) c.found.view_is) c.in_err-hear_found.ensures c.from_residual.ensures.0)
 
 pub returns : goal.returns
 returns c =
@@ -40,4 +38,4 @@ returns c =
     let new = c.hear_found.new.self in
     let there : under y.circuits h ≡ Some d = ap (λ (z : Client). under z.circuits h) (sym c.self.view_is) ∙ sym c.in-Some.ensures in
     heard-first x h c.args.head.now (Ok c.none.result) y new c.take.ensures
-    (search-done y h d from m done c.none.result new c.requires.command there (ap (λ (e : ClientCircuit). e.address) c.found.view_is) c.none.ensures (subst (λ (r : Fields). FindsOr y from r (Ok done) new) c.with_header-reply.ensures c.in_ok-hear_found.ensures))
+    (search-done y h d from m done c.none.result new c.requires.command there (ap (λ (e : ClientCircuit). e.address) c.found.view_is) c.none.ensures c.in_ok-hear_found.ensures)

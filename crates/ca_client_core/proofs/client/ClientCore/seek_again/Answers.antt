@@ -18,8 +18,8 @@ invariant_of-self c =
     let cid : c.number.result ≡ wire_of h = c.number.ensures ∙ c.of.ensures in
     let begins : ns ≡ with_one (resumed i.moment) (wire_of h) es = c.resume.ensures ∙ ap (λ (n : ℕ). with_one (resumed i.moment) n es) cid in
     record {
-      client = client-again i.channels c.bring_back.new.channels es ns (λ (here : Channel). record here { standing = Searching }) (resumed i.moment) h c.bring_back.ensures begins c.self.invariant.client;
+      client = client-again i.channels c.set_standing.new.channels es ns (λ (here : Channel). record here { standing = Searching }) (resumed i.moment) h c.set_standing.ensures begins c.self.invariant.client;
       placed =
-          placed-again c.self.inside.channels c.self.inside.requests.table c.self.inside.monitors c.self.inside.circuits c.self.invariant.placed h c.bring_back.new.channels (subst (λ (y : Client). HasNothingOut h y) (sym c.self.view_is) c.requires) c.bring_back.ensures;
-      listed = listed-not Searching h i.channels c.bring_back.new.channels i.lives.items refl c.bring_back.ensures c.self.invariant.listed;
+          placed-again c.self.inside.channels c.self.inside.requests.table c.self.inside.monitors c.self.inside.circuits c.self.invariant.placed h c.set_standing.new.channels (subst (λ (y : Client). HasNothingOut h y) (sym c.self.view_is) c.requires) c.set_standing.ensures;
+      listed = listed-not Searching h i.channels c.set_standing.new.channels i.lives.items refl c.set_standing.ensures c.self.invariant.listed;
     }

@@ -1,12 +1,10 @@
-use Rattle.std.proofs.Common.{◌≡◌, ◌∙◌, ℕ, List, Result, ap, refl, subst, sym}
+use Rattle.std.proofs.Common.{◌∙◌, List, Result, ap, refl, subst, sym}
 use Rattle.ca_text.specs.declared.refusal.Refusal.{Refusal}
 use Rattle.ca_arena.specs.declared.handle.Handle.{Handle}
 use Rattle.ca_ids.specs.Table.{MayGive, is_full}
-use Rattle.ca_wire.specs.declared.requests.Wanted.{Wanted}
-use Rattle.ca_wire.specs.Messages.{event_add_request}
 use Rattle.ca_model.specs.Answers.{Sending}
 use Rattle.ca_model.specs.Client.{Client}
-use Rattle.ca_model.specs.ClientCalls.{ClientSubscribes, Shape, event_add_sent, new_subscription}
+use Rattle.ca_model.specs.ClientCalls.{ClientSubscribes, Shape, new_subscription}
 use Rattle.ca_client_core.specs.Lives.{live_of}
 use Rattle.ca_client_core.proofs.Adding.{subscribes-done, subscribes-full, subscribes-not, subscribes-out}
 use Rattle.ca_client_core.proofs.Faults.{same-error}
@@ -27,8 +25,8 @@ returns-in_default c =
     subscribes-full x c.args.channel a c.args.mask (live_of c.in_ok-live.live) c.in_ok-live.ensures.0 c.in_ok-live.ensures.1
     (sym (ap (λ (y : Client). is_full y.subscriptions) c.self.view_is) ∙ c.in_default.ensures)
 
-pub returns-in_default-event_add_request : goal.returns-in_default-event_add_request
-returns-in_default-event_add_request c =
+pub returns-in_default-add_message : goal.returns-in_default-add_message
+returns-in_default-add_message c =
     let x = c.args.self.now in
     let a : Shape = record { data_type = c.args.data_type; count = c.args.count } in
     let s = c.in-Some.vacant in
@@ -40,11 +38,7 @@ returns-in-Ok-add c =
     let a : Shape = record { data_type = c.args.data_type; count = c.args.count } in
     let l = live_of c.in_ok-live.live in
     let s = c.in-Some.vacant in
-    let says : c.in-Ok.message ≡ (event_add_sent l.circuit l.native.sid s (new_subscription c.args.channel a c.args.mask)).message =
-    c.in-Ok.ensures
-    ∙ ap (λ (i : ℕ). let w : Wanted = record { sid = i; id = c.new-2.result; data_type = c.args.data_type; count = c.args.count } in event_add_request w c.args.mask) c.new.ensures
-    ∙ ap (λ (i : ℕ). let w : Wanted = record { sid = l.native.sid; id = i; data_type = c.args.data_type; count = c.args.count } in event_add_request w c.args.mask) (c.new-2.ensures ∙ c.number.ensures ∙ c.of.ensures) in
-    subscribes-done x c.args.channel a c.args.mask l s (new_subscription c.args.channel a c.args.mask) c.in-Ok.message c.add.new.self c.in_ok-live.ensures.0 c.in_ok-live.ensures.1 refl says c.in-Ok-add.ensures
+    subscribes-done x c.args.channel a c.args.mask l s (new_subscription c.args.channel a c.args.mask) c.in-Ok.message c.add.new.self c.in_ok-live.ensures.0 c.in_ok-live.ensures.1 refl c.in-Ok.ensures c.in-Ok-add.ensures
 
 pub returns : goal.returns
 returns c =

@@ -1,19 +1,19 @@
-//! A socket in memory, for tests.
-use crate::socket::{Moved, Socket};
+//! A socket in memory.
+use ca_client::{Moved, Socket};
 
-/// A socket in memory: what it has to give, what it was given, and after how many calls it fails.
+/// What it has to give, what it was given, and after how many calls it fails.
 #[derive(Drop)]
-pub struct Tape {
+pub(crate) struct Tape {
     /// What it gives, in order.
-    pub incoming: Vec<u8>,
+    pub(crate) incoming: Vec<u8>,
     /// How many of these bytes it gave.
-    pub at: usize,
+    pub(crate) at: usize,
     /// What it was given.
-    pub outgoing: Vec<u8>,
+    pub(crate) outgoing: Vec<u8>,
     /// How many more calls do not fail.
-    pub calls_left: u64,
+    pub(crate) calls_left: u64,
     /// How many calls failed.
-    pub failed: u64,
+    pub(crate) failed: u64,
 }
 
 impl Socket for Tape {
@@ -31,7 +31,6 @@ impl Socket for Tape {
 
     ghost fault_count = { λ t. t.failed };
 
-    #[tactic(auto, using(crate::proofs::Tapes::nothing_between))]
     fn read(&mut self, buffer: &mut [u8]) -> Moved {
         if self.calls_left == 0 {
             self.failed += 1;

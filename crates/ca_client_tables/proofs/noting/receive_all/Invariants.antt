@@ -3,7 +3,7 @@ use Rattle.std.specs.Vec.{vec_capacity}
 use Rattle.ca_client_tables.specs.Receiving.{HalfParts, Parts}
 use Rattle.ca_client_tables.proofs.Arrivals.{begun}
 use Rattle.ca_client_tables.proofs.Noticed.{SoNoted}
-use Rattle.ca_client_tables.proofs.noting.receive_all_noting.Given as goal
+use Rattle.ca_client_tables.proofs.noting.receive_all.Given as goal
 
 -- those before this one had their effects, and there is room for what is to be noted
 abbrev pub invariant-loop-index : goal.invariant-loop-index

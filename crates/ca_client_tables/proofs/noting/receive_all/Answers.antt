@@ -7,7 +7,7 @@ use Rattle.ca_client_tables.specs.declared.foretelling.Creation.{Creation}
 use Rattle.ca_client_tables.specs.declared.receiving.Received.{Received}
 use Rattle.ca_client_tables.proofs.Arrivals.{begun}
 use Rattle.ca_client_tables.proofs.Noticed.{SoNoted, so-noted-more, so-noted-none, so-noted-opens, so-noted-refused}
-use Rattle.ca_client_tables.proofs.noting.receive_all_noting.Goals as goal
+use Rattle.ca_client_tables.proofs.noting.receive_all.Goals as goal
 
 pub loop-index-init : goal.loop-index-init
 loop-index-init c =
