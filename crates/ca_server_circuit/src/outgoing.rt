@@ -65,7 +65,7 @@ impl Model for Outgoing {
 
     ghost Value = { OutgoingState };
 
-    ghost use Rattle.std.specs.Prelude.{◌≡◌, ◌<◌, ◌×◌, length};
+    ghost use Rattle.std.specs.Prelude.{◌≡◌, ◌<◌, length};
     ghost use Rattle.std.specs.List.{flat_map};
 
     ghost view = { λ o.
