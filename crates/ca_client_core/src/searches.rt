@@ -20,6 +20,13 @@ use indexmap::IndexMap;
 use std::alloc::{AllocError, Global};
 use std::marker::Model;
 
+// The longest wait between two searches for a channel, in milliseconds: a later
+// moment is not looked for.
+const LONGEST_WAIT: u64 = 300_000;
+
+// This many halvings find one moment among all.
+const HALVINGS: usize = 20;
+
 /// The channels that are searched for, or were found, by CID, in the order in
 /// which they were opened.
 #[derive(Drop)]
@@ -207,23 +214,23 @@ pub(crate) fn pass(searches: &mut Searches, now: u64)
     }
     searches.quiet = 0;
     ca_search::pass(&mut searches.places, now);
-    searches.quiet = quiet_of(&searches.places);
+    searches.quiet = quiet_of(&searches.places, now);
 }
 
 // A moment before which none of these searches is due.
-fn quiet_of(places: &IndexMap<u32, Place>) -> u64
+fn quiet_of(places: &IndexMap<u32, Place>, now: u64) -> u64
     ensures { AreQuiet result places.now.entries }
 {
     let mut quiet = u64::MAX;
     for index in 0..places.len() {
-        quiet = quiet_with(places, index, quiet);
+        quiet = quiet_with(places, index, now, quiet);
     }
     quiet
 }
 
 // A moment before which no search up to this place is due, where before this limit none
 // before the place is.
-fn quiet_with(places: &IndexMap<u32, Place>, index: usize, limit: u64) -> u64
+fn quiet_with(places: &IndexMap<u32, Place>, index: usize, now: u64, limit: u64) -> u64
     requires within { index < length places.now.entries }
     requires before { AreQuiet limit (take index places.now.entries) }
     ensures { AreQuiet result (take (index + 1) places.now.entries) }
@@ -231,16 +238,53 @@ fn quiet_with(places: &IndexMap<u32, Place>, index: usize, limit: u64) -> u64
     let Some((_, place)) = places.get_index(index) else {
         unreachable!()
     };
-    quiet_at(place, limit)
+    quiet_at(place, now, limit)
 }
 
 // A moment before which no search for this channel is due: this limit, or an earlier one.
-fn quiet_at(place: &Place, limit: u64) -> u64
+fn quiet_at(place: &Place, now: u64, limit: u64) -> u64
     ensures quiet { IsQuiet result place.now }
     ensures within { result ≤ limit }
 {
-    match place.due() {
-        Some(due) => limit.min(due),
-        None => limit,
+    if !place.is_due(limit) {
+        return limit;
     }
+    if place.is_due(now) {
+        return 0;
+    }
+    let high = limit.min(now.saturating_add(LONGEST_WAIT));
+    if high < now {
+        return 0;
+    }
+    quiet_between(place, now, high)
+}
+
+// The last moment between these before which no search for this channel is due, as far
+// as it is looked for.
+fn quiet_between(place: &Place, low: u64, high: u64) -> u64
+    requires between { low ≤ high }
+    requires quiet { IsQuiet low place.now }
+    ensures quiet { IsQuiet result place.now }
+    ensures within { result ≤ high }
+{
+    let mut range = (low, high);
+    for _ in 0..HALVINGS {
+        range = halved(place, range.0, range.1);
+    }
+    range.0
+}
+
+// The half of these moments that has the last one.
+fn halved(place: &Place, low: u64, high: u64) -> (u64, u64)
+    requires between { low ≤ high }
+    requires quiet { IsQuiet low place.now }
+    ensures quiet { IsQuiet result.0 place.now }
+    ensures between { result.0 ≤ result.1 }
+    ensures within { result.1 ≤ high }
+{
+    let middle = low + (high - low) / 2;
+    if place.is_due(middle) {
+        return (low, middle);
+    }
+    (middle, high)
 }

@@ -47,13 +47,6 @@ impl SearchClock {
         self.due <= now
     }
 
-    /// When the next search is due.
-    pub(crate) fn due(&self) -> u64
-        ensures { result ≡ self.now.due }
-    {
-        self.due
-    }
-
     /// Counts a search that is made now.
     pub(crate) fn search(&mut self, now: u64)
         ensures { self.new ≡ searched_at self.old now }

@@ -1,8 +1,8 @@
 //! One channel of a client's searches: its name, and its clock while it is not found.
-ghost use Rattle.std.specs.Prelude.{◌≡◌, IfOk, Some, option_map};
+ghost use Rattle.std.specs.Prelude.{◌≡◌, IfOk, Some};
 ghost use Rattle.ca_text.specs.Limits.{channel_name_limit};
 ghost use Rattle.ca_text.specs.Name.{IsName};
-ghost use Rattle.ca_search.specs.Clock.{Clock, fresh};
+ghost use Rattle.ca_search.specs.Clock.{fresh};
 ghost use Rattle.ca_search.specs.Searches.{boosted, is_due, passed, paused, resumed, wanted};
 
 use crate::clock::SearchClock;
@@ -48,16 +48,6 @@ impl Place {
         match &self.clock {
             None => false,
             Some(clock) => clock.is_due(now),
-        }
-    }
-
-    /// When the next search is due: never, while the channel is paused.
-    pub fn due(&self) -> Option<u64>
-        ensures { result ≡ option_map (λ (clock : Clock). clock.due) self.now.clock }
-    {
-        match &self.clock {
-            None => None,
-            Some(clock) => Some(clock.due()),
         }
     }
 
