@@ -11,4 +11,3 @@ pub mod Channels
 pub mod Posts
 pub mod Passing
 mod Waits
-pub mod Shares

@@ -73,7 +73,8 @@ impl<'a> Posted<'a> {
 
     // The copy that is shared, if there is one.
     pub(crate) fn shared(&self) -> &Option<Arc<SharedUpdate>>
-        ensures { IsCopy self.now (option_map arc_value result.now) }
+        ensures copy { IsCopy self.now (option_map arc_value result.now) }
+        ensures limit { count_of self.now.value ≤ element_limit }
     {
         self.shared
     }

@@ -62,13 +62,19 @@ impl Update {
     {
         match &self.kept {
             Kept::Own(value, meta) => Update::of(alloc, value, *meta),
-            Kept::Shared(shared) => {
-                let shared = Arc::try_clone(shared)?;
-                Ok(Update {
-                    kept: Kept::Shared(shared),
-                })
-            }
+            Kept::Shared(shared) => Update::sharing(shared),
         }
+    }
+
+    // One that shares this value.
+    fn sharing(shared: &Arc<SharedUpdate>) -> Result<Update, AllocError>
+        requires { count_of (arc_value shared.now).stored.value ≤ element_limit }
+        ensures { IfOk result (λ u. u ≡ (arc_value shared.now).stored) }
+    {
+        let shared = Arc::try_clone(shared)?;
+        Ok(Update {
+            kept: Kept::Shared(shared),
+        })
     }
 
     // One without elements. It does not allocate.
@@ -90,20 +96,19 @@ impl Update {
                 return copy_over(alloc, room, posted.value());
             }
         }
-        self.replace(alloc, posted)
+        *self = Update::of_posted(alloc, posted)?;
+        Ok(())
     }
 
-    // It is what was posted from now on, in place of what it was. Without memory it is as it was.
+    // What was posted: it shares that, or copies it.
     #[inline(never)]
-    fn replace(&mut self, alloc: Global, posted: &Posted) -> Result<(), AllocError>
-        ensures ok { OnOk result (self.new ≡ posted.now) }
-        ensures err { OnErr result (self.new ≡ self.old) }
+    fn of_posted(alloc: Global, posted: &Posted) -> Result<Update, AllocError>
+        ensures { IfOk result (λ u. u ≡ posted.now) }
     {
         match posted.shared() {
-            Some(shared) => self.kept = Kept::Shared(Arc::try_clone(shared)?),
-            None => *self = Update::of(alloc, posted.value(), *posted.meta())?,
+            Some(shared) => Update::sharing(shared),
+            None => Update::of(alloc, posted.value(), *posted.meta()),
         }
-        Ok(())
     }
 
     /// Its value.

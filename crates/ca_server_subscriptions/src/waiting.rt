@@ -104,7 +104,7 @@ impl Waiting {
         mask: u16,
         posted: &Posted,
     ) -> Result<(), AllocError>
-        requires placed { ArePlacedIn receivers.now self.old }
+        requires { ArePlacedIn receivers.now self.old }
         ensures ok { OnOk result (self.new ≡ fold
             (λ qs r. map
             (queue_posted r.key posted.now) qs)
@@ -138,7 +138,7 @@ impl Waiting {
         mask: u16,
         posted: &Posted,
     ) -> Result<(), AllocError>
-        requires placed { ArePlacedIn receivers.now self.old }
+        requires { ArePlacedIn receivers.now self.old }
         ensures ok { OnOk result (self.new ≡ fold
             (λ qs r. map
             (queue_posted r.key posted.now) qs)
@@ -159,7 +159,7 @@ impl Waiting {
         mask: u16,
         posted: &Posted,
     ) -> Result<(), AllocError>
-        requires has { HasAt self.old receiver.now.queue receiver.now.key }
+        requires { HasAt self.old receiver.now.queue receiver.now.key }
         ensures ok { OnOk result (self.new ≡ (if is_masked mask receiver.now then map
             (queue_posted receiver.now.key posted.now)
             self.old else self.old)) }

@@ -10,8 +10,8 @@ use Rattle.ca_server_subscriptions.proofs.Placing.{in-err}
 use Rattle.ca_server_subscriptions.proofs.Receivers.{any-concerned, posts-all, only_one-is-on}
 use Rattle.ca_server_subscriptions.proofs.subscriptions.Subscriptions.post.Goals as goal
 
-pub post-requires-clause-placed : goal.post-requires-clause-placed
-post-requires-clause-placed c = (c.self.inside.standing.entries, c.args.name.now, c.self.invariant.0, c.from_ref.ensures.value ∙ sym c.in-Some.ensures)
+pub post-requires : goal.post-requires
+post-requires c = (c.self.inside.standing.entries, c.args.name.now, c.self.invariant.0, c.from_ref.ensures.value ∙ sym c.in-Some.ensures)
 
 pub returns-in_err-post-clause-err : goal.returns-in_err-post-clause-err
 returns-in_err-post-clause-err c =

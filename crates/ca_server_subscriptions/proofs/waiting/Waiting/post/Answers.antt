@@ -43,7 +43,7 @@ invariant_of-self-in_default c =
     let i = c.self.inside in
     let only_one = c.nothing_waits.ensures c.if-not-nothing_waits.false in
     owes i.events_on i.empty c.owe.new.owed.items c.args.receivers.now c.args.mask i.queues c.self.invariant.switched only_one.1 (c.self.invariant.quiet only_one.1)
-    (subst (λ (qs : List (Queue Stored)). ArePlacedIn c.args.receivers.now qs) (sym (were c)) c.requires.placed) (c.are_in_order.ensures c.if-not-are_in_order.false) c.in_default.ensures
+    (subst (λ (qs : List (Queue Stored)). ArePlacedIn c.args.receivers.now qs) (sym (were c)) c.requires) (c.are_in_order.ensures c.if-not-are_in_order.false) c.in_default.ensures
 
 -- what is seen now
 seen : (c : goal.In_default)

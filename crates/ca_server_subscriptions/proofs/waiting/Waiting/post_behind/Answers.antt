@@ -3,9 +3,9 @@ use Rattle.ca_server_subscriptions.proofs.Receivers.{has-in, index-at, placed-po
 use Rattle.ca_server_subscriptions.specs.ByRecord.{is_masked}
 use Rattle.ca_server_subscriptions.proofs.waiting.Waiting.post_behind.Goals as goal
 
-pub put_behind-requires-clause-has : goal.put_behind-requires-clause-has
-put_behind-requires-clause-has c =
-    has-in c.args.receivers.now c.args.self.now c.posting.self c.posting.i c.index-receivers-i.result c.requires.placed c.posting.invariant.1
+pub put_behind-requires : goal.put_behind-requires
+put_behind-requires c =
+    has-in c.args.receivers.now c.args.self.now c.posting.self c.posting.i c.index-receivers-i.result c.requires c.posting.invariant.1
     (index-at c.args.receivers.now c.posting.i c.index-receivers-i.result c.posting-test.true c.index-receivers-i.is)
 
 pub posting-preserved : goal.posting-preserved

@@ -10,7 +10,7 @@ use Rattle.ca_server_subscriptions.proofs.waiting.Waiting.post_behind.Given as g
 
 abbrev pub invariant-posting : goal.invariant-posting
 invariant-posting l =
-    let v : Stored = record { value = elements l.value; meta = l.meta } in
+    let v : Stored = l.posted in
     (fold (λ (qs : List (Queue Stored)) (r : Receiver). map (queue_posted r.key v) qs) l.self (filter (is_masked l.mask) (drop l.i l.receivers))
     ≡ fold (λ (qs : List (Queue Stored)) (r : Receiver). map (queue_posted r.key v) qs) l.fn.self (filter (is_masked l.mask) l.receivers))
     × ((es : Standings) → ArePlaced es l.fn.self → ArePlaced es l.self)
