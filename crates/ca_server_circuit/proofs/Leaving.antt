@@ -1,8 +1,8 @@
 -- Updates leave an end, some of whose bytes have left already.
-use Rattle.std.proofs.Common.{◌≡◌, ℕ, ◌≤◌, true, false, Bool, List, [], ◌∷◌, ◌++◌, length, Result, Ok, Err, refl, sym, ap, ◌∙◌, subst}
-use Rattle.std.proofs.lemmas.List.{append-nil, append_assoc, drop_all}
+use Rattle.std.proofs.Common.{◌≡◌, ℕ, ◌≤◌, true, false, Bool, ◌+◌, List, [], ◌∷◌, ◌++◌, length, Result, Ok, Err, refl, sym, ap, ◌∙◌, subst, arith}
+use Rattle.std.proofs.lemmas.List.{append-nil, append_assoc, length-append}
 use Rattle.std.specs.Prelude.{OnErr, OnOk, drop}
-use Rattle.std.specs.List.{FoldsTo}
+use Rattle.std.specs.List.{FoldsTo, flat_map}
 use Rattle.std.specs.declared.alloc.AllocError.{AllocError}
 use Rattle.ca_text.specs.Limits.{output_limit}
 use Rattle.ca_text.specs.Status.{normal}
@@ -10,7 +10,8 @@ use Rattle.ca_dbr.specs.Image.{image}
 use Rattle.ca_dbr.specs.Shown.{shown}
 use Rattle.ca_link.specs.Link.{LinkState, with_handed, with_sent}
 use Rattle.ca_wire.specs.Fields.{Fields}
-use Rattle.ca_wire.specs.Message.{spelled, spelling}
+use Rattle.ca_wire.specs.Header.{header_spelling}
+use Rattle.ca_wire.specs.Message.{header_of, spelled, spelling}
 use Rattle.ca_wire.specs.Messages.{update}
 use Rattle.ca_wire.specs.declared.requests.Wanted.{Wanted}
 use Rattle.ca_model.specs.Server.{ServerEnd}
@@ -58,6 +59,10 @@ pub grows-by : (r : Result (Unit {0}) AllocError) (a b : OutgoingState) (before 
 grows-by (Ok u) a b before on is same = grows-shared a b before on is
 grows-by (Err e) a b before on is same = grows-is a b same
 
+drop-whole : (xs : List ℕ) → drop (length xs) xs ≡ []
+drop-whole [] = refl
+drop-whole (x ∷ xs) = drop-whole xs
+
 -- ---- the message behind all others
 
 pub sends-behind : (m : Fields) (o : OutgoingState) (l k : LinkState) → k ≡ with_sent (m ∷ []) l → SendsBehind m o l o k
@@ -74,7 +79,7 @@ shares-behind m o n l k taken handed =
     ap (λ (x : OutgoingState). behind x.before k) taken
     ∙ ap (λ (x : LinkState). behind (o.before ++ more) x) handed
     ∙ ap (λ (out : List ℕ). let x : LinkState = record l { output = out } in x) (
-      ap (λ (rest : List ℕ). (o.before ++ more) ++ rest) (drop_all l.output)
+      ap (λ (rest : List ℕ). (o.before ++ more) ++ rest) (drop-whole l.output)
       ∙ append-nil (o.before ++ more)
       ∙ sym (append_assoc o.before l.output (spelling m))
       ∙ ap (λ (s : List ℕ). (o.before ++ l.output) ++ s) (sym (append-nil (spelling m)))
@@ -89,6 +94,29 @@ shows-shared w v m is typed counted =
     (ap (λ (x : Fields). addressed w.id x) is.2.2
     ∙ ap (λ (k : ℕ). update k m.count normal w.id (image t e v.meta)) typed
     ∙ ap (λ (k : ℕ). update w.data_type k normal w.id (image t e v.meta)) counted)
+
+-- ---- pieces
+
+pub joined-more : (xs : List (List ℕ)) (p : List ℕ) → flat_map (λ (x : List ℕ). x) (xs ++ p ∷ []) ≡ flat_map (λ (x : List ℕ). x) xs ++ p
+joined-more [] p = append-nil p
+joined-more (x ∷ xs) p = ap (λ (r : List ℕ). x ++ r) (joined-more xs p) ∙ sym (append_assoc x (flat_map (λ (y : List ℕ). y) xs) p)
+
+pub joined-length : (xs : List (List ℕ)) (a b c : List ℕ) → length (flat_map (λ (x : List ℕ). x) (xs ++ ((a ++ b) ++ c) ∷ [])) ≡ length (flat_map (λ (x : List ℕ). x) xs) + (length a + length b + length c)
+joined-length xs a b c =
+    let all = ap length (joined-more xs ((a ++ b) ++ c)) in
+    let one = length-append (flat_map (λ (x : List ℕ). x) xs) ((a ++ b) ++ c) in
+    let two = length-append (a ++ b) c in
+    let three = length-append a b in
+    omega (arith, all, one, two, three)
+
+-- the header and the image of a message, after what waits
+pub piece-is : (to out header payload : List ℕ) (m : Fields) → to ≡ out → header ≡ header_spelling (header_of m) → payload ≡ m.payload → (to ++ header) ++ payload ≡ out ++ spelling m
+unfolding spelling
+piece-is to out header payload m first second third =
+    append_assoc to header payload
+    ∙ ap (λ (x : List ℕ). x ++ (header ++ payload)) first
+    ∙ ap (λ (x : List ℕ). out ++ (x ++ payload)) second
+    ∙ ap (λ (x : List ℕ). out ++ (header_spelling (header_of m) ++ x)) third
 
 -- ---- ends
 
@@ -105,7 +133,7 @@ pumps-whole old new r o n is grows did =
 
 emptied-so : (b : List ℕ) (e : ServerEnd) → (let x : ServerEnd = record e { link = with_handed (length e.link.output) e.link } in x) ≡ emptied_end (end_behind b e)
 emptied-so b e =
-    ap (λ (out : List ℕ). let l : LinkState = record e.link { output = out } in let x : ServerEnd = record e { link = l } in x) (drop_all e.link.output ∙ sym (drop_all (b ++ e.link.output)))
+    ap (λ (out : List ℕ). let l : LinkState = record e.link { output = out } in let x : ServerEnd = record e { link = l } in x) (drop-whole e.link.output ∙ sym (drop-whole (b ++ e.link.output)))
 
 -- all that waits leaves at the end
 pub pumps-over : (old mid new : ServerEnd) (r : Result (Unit {0}) AllocError) (o n last : OutgoingState) (k : LinkState) → (let none : List ℕ = [] in (o.before ≡ none) × (o.last ≡ none)) → Grows o n → PumpsEnd (end_behind o.before old) r (end_behind n.before mid)
@@ -115,9 +143,9 @@ pumps-over old mid new r o n last k nothing grows did taken handed is =
     (subst (λ (x : ServerEnd). PumpsOver old r x (n.before ++ mid.link.output)) (sym (is ∙ ap (λ (l : LinkState). let x : ServerEnd = record mid { link = l } in x) handed))
     (by r (subst (λ (b : List ℕ). PumpsEnd (end_behind b old) r (end_behind n.before mid)) nothing.0 did)))
   where
-    abbrev left : ServerEnd
+    left : ServerEnd
     left = record mid { link = with_handed (length mid.link.output) mid.link }
 
     by : (r : Result (Unit {0}) AllocError) → PumpsEnd old r (end_behind n.before mid) → PumpsOver old r left (n.before ++ mid.link.output)
     by (Ok u) (us, f, rests) = (us, end_behind n.before mid, f, rests, refl, emptied-so n.before mid)
-    by (Err e) (us, after, f, more, out, channels) = (us, after, f, more, out, drop_all mid.link.output, channels)
+    by (Err e) (us, after, f, more, out, channels) = (us, after, f, more, out, drop-whole mid.link.output, channels)

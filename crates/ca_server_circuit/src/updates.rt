@@ -4,7 +4,7 @@ ghost use Rattle.std.specs.Prelude.{false, if◌then◌else◌, length, option_m
 ghost use Rattle.std.specs.Arc.{arc_value};
 ghost use Rattle.std.specs.List.{list_any};
 ghost use Rattle.ca_text.specs.Limits.{element_limit, output_limit, payload_limit};
-ghost use Rattle.ca_dbr.specs.Elements.{count_of, elements};
+ghost use Rattle.ca_dbr.specs.Elements.{count_of};
 ghost use Rattle.ca_link.specs.Calls.{IsOpen};
 ghost use Rattle.ca_link.specs.Link.{with_sent};
 ghost use Rattle.ca_wire.specs.Fields.{Fields};
@@ -24,7 +24,7 @@ use crate::end::End;
 use crate::outgoing::Outgoing;
 use crate::read::status_of;
 use crate::shown::{Shown, Zeros};
-use ca_dbr::{Value, image_size};
+use ca_dbr::image_size;
 use ca_link::Link;
 use ca_records::Record;
 use ca_server_subscriptions::{Posted, SharedUpdate, Update};
@@ -66,7 +66,12 @@ impl End {
         ensures { IsCopy (stored_of of.now) (option_map arc_value result) }
     {
         let wanted = self.subscriptions.wanted_on(of.name())?;
-        let count = count_for(wanted.count, of.value());
+        let present = of.value().count() as u32;
+        let count = if wanted.count == 0 {
+            present
+        } else {
+            wanted.count
+        };
         SharedUpdate::of(self.alloc, of.value(), of.meta(), wanted.data_type, count)
     }
 
@@ -191,7 +196,7 @@ fn shown_size(wanted: &Wanted, shown: &Update) -> usize
     requires { IsAskable wanted.now }
     ensures { ShowsWithin wanted.now shown.now result }
 {
-    let count = count_for(wanted.count, shown.value());
+    let count = count_for(wanted.count, shown);
     let Ok(size) = image_size(wanted.data_type, count) else {
         unreachable!()
     };
@@ -221,7 +226,7 @@ fn show(
     match shown_scalar(wanted, shown) {
         Some(payload) => send_scalar(link, wanted, payload),
         None => {
-            let count = count_for(wanted.count, shown.value());
+            let count = count_for(wanted.count, shown);
             match to.shared(shown, wanted.data_type, count) {
                 Some(shared) => to.share(alloc, link, wanted.id, shared),
                 None => show_image(alloc, link, *wanted, shown),
@@ -300,7 +305,7 @@ fn show_image(
         data_type,
         count,
     } = wanted;
-    let count = count_for(count, shown.value());
+    let count = count_for(count, shown);
     let Ok(size) = image_size(data_type, count) else {
         unreachable!()
     };
@@ -367,11 +372,11 @@ fn answered(id: Ioid, status: Status, data_type: u16, count: u32) -> Answered
 }
 
 /// How many elements an update has: a count of 0 means the present count.
-fn count_for(count: u32, value: &Value) -> u32
+fn count_for(count: u32, update: &Update) -> u32
     requires { count ≤ element_limit }
-    ensures count { result ≡ (if count == 0 then count_of (elements value.now) else count) }
+    ensures count { result ≡ (if count == 0 then count_of update.now.value else count) }
     ensures limit { result ≤ element_limit }
 {
-    let present = value.count() as u32;
+    let present = update.value().count() as u32;
     if count == 0 { present } else { count }
 }

@@ -1,11 +1,12 @@
-use Rattle.std.proofs.Common.{◌≡◌, ◌++◌, List, ℕ, inl, inr, refl, sym, ap, ◌∙◌, subst}
+use Rattle.std.proofs.Common.{◌≡◌, List, ℕ, inl, inr, refl, sym, ap, ◌∙◌, subst}
 use Rattle.ca_model.specs.Ends as why
 use Rattle.ca_model.specs.Server.{ServerCircuit, ServerEnd}
 use Rattle.ca_model.specs.Server as server
 use Rattle.ca_server_circuit.specs.declared.circuit.CircuitState.{CircuitState}
 use Rattle.ca_server_circuit.specs.Circuits.{circuit_of}
-use Rattle.ca_server_circuit.specs.Outgoing.{OutgoingState, bytes_of, emptied}
+use Rattle.ca_server_circuit.specs.Outgoing.{bytes_of}
 use Rattle.ca_server_circuit.specs.Pumping.{PumpsOverAt}
+use Rattle.ca_server_circuit.specs.Stepping.{why_is}
 use Rattle.ca_server_circuit.specs.Subscribing.{events_of}
 use Rattle.ca_server_subscriptions.specs.Subscribed.{HasRoom}
 use Rattle.ca_server_circuit.proofs.circuit.Circuit.pump_over.Goals as goal
@@ -28,5 +29,5 @@ returns-in-Err c =
 pub returns-in-Ended : goal.returns-in-Ended
 returns-in-Ended c =
     let was = ap (λ (x : CircuitState). circuit_of x) (sym c.in-Ended.is) ∙ c.self.view_is in
-    subst (λ (x : ServerCircuit). PumpsOverAt c.args.circuit x c.args.records.now (emptied x) c.args.records.now (bytes_of c.take.new.self)) was
-    (_, (refl, refl), ap bytes_of c.take.ensures.to, refl)
+    subst (λ (x : ServerCircuit). PumpsOverAt c.args.circuit x c.args.records.now (server.Ended (why_is c.in-Ended.field-0) c.take.new.from) c.args.records.now (bytes_of c.take.new.self)) was
+    (_, (refl, refl), ap bytes_of c.take.ensures.to, ap (λ (o : List ℕ). server.Ended (why_is c.in-Ended.field-0) o) c.take.ensures.from)

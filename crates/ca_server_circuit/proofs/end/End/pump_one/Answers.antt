@@ -1,4 +1,4 @@
-use Rattle.std.proofs.Common.{◌++◌, ap, length, sym}
+use Rattle.std.proofs.Common.{◌++◌, ◌∙◌, ap, length, sym}
 use Rattle.std.proofs.lemmas.Bool.{leb-false, leb-true}
 use Rattle.ca_text.specs.Limits.{output_limit}
 use Rattle.ca_model.specs.Server.{ServerEnd}
