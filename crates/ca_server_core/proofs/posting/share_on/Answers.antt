@@ -7,7 +7,7 @@ use Rattle.ca_server_circuit.specs.Posting.{stored_of}
 use Rattle.ca_server_core.proofs.posting.share_on.Goals as goal
 
 pub returns-in_err-found : goal.returns-in_err-found
-returns-in_err-found c = (c.at.result.now, c.at.ensures.at, tt)
+returns-in_err-found c = rw c.from_residual.ensures (c.at.result.now, c.at.ensures.at, tt)
 
 pub returns : goal.returns
 returns c = (c.at.result.now, c.at.ensures.at, subst (λ (x : RecordState). IsCopy (stored_of x) (option_map arc_value c.share.result)) c.state-record.ensures c.share.ensures)
