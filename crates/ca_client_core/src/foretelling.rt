@@ -153,8 +153,8 @@ fn add_of(
     ensures { IfOk result (λ s. sending_of s
         ≡ event_add_sent circuit sid standing.0 standing.1) }
 {
-    let message = add_message(alloc, sid, standing)?;
     let (subscription, found) = standing;
+    let message = add_message(alloc, sid, (subscription, found))?;
     let aim = Aim::Subscribe(found.channel, subscription);
     Ok(Sending {
         circuit,
