@@ -46,12 +46,12 @@ use Rattle.ca_world.specs.Resting.{ComesUp, StepsOrRests}
 use Rattle.ca_world.specs.StepParts.{MayBegin}
 use Rattle.ca_world.specs.Whole.{IsReached}
 use Rattle.ca_world.proofs.Additions.{others-apart, run-order}
-use Rattle.ca_world.proofs.Cuttings.{run-reported, run-stands, serves-there}
+use Rattle.ca_world.proofs.Cuttings.{run-stands, serves-there}
 use Rattle.ca_world.proofs.Postings.{ending-keeps, posted-keeps, run-alike}
 use Rattle.ca_world.proofs.Rests.{run-comes}
 use Rattle.ca_world.proofs.Seating.{run-seated}
 use Rattle.ca_world.proofs.StepLaws.{step-happens}
-use Rattle.ca_world.proofs.Counted.{run-unstamped}
+use Rattle.ca_world.proofs.Counted.{run-reported, run-unstamped}
 
 -- ---- records
 
