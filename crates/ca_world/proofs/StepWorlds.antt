@@ -51,7 +51,7 @@ use Rattle.ca_world.proofs.Postings.{ending-keeps, posted-keeps, run-alike}
 use Rattle.ca_world.proofs.Rests.{run-comes}
 use Rattle.ca_world.proofs.Seating.{run-seated}
 use Rattle.ca_world.proofs.StepLaws.{step-happens}
-use Rattle.ca_world.proofs.Counted.{run-reported, run-unstamped}
+use Rattle.ca_world.proofs.Counted.{run-unstamped}
 
 -- ---- records
 
@@ -101,7 +101,6 @@ run-may-begin w k j y reached fit at server on =
       beside = beside-by y.core.records y.records (run-order w j.server y reached server);
       apart = others-apart y.records l.life.others;
       unstamped = run-unstamped w reached j.server y server;
-      reported = run-reported w reached j.server y server;
     }
 
 -- ---- circuits keep their ends
