@@ -1,4 +1,5 @@
--- No event hands a stamp to a server, and each life's log is as long as what that life has counted.
+-- No event hands a stamp to a server, each life's log is as long as what that life has counted, and
+-- between events each end of a server that ended was reported.
 use Rattle.std.proofs.Common.{◌≡◌, ℕ, zero, suc, ◌+◌, ◌<◌, ◌≤◌, ◌^◌, ◌≢◌, ◌⊎◌, inl, inr, Bool, true, false, List, [], ◌∷◌, ◌++◌, length, map, Option, Some, None, Ok, Err, refl, sym, ap, subst, ◌∙◌, arith}
 use Rattle.std.proofs.Math.Nat.{min-le_left}
 use Rattle.std.specs.Prelude.{Result, Vec, drop, filter, if◌then◌else◌, not, option_map, slice_get, slice_set, take, unwrap_or}
@@ -46,8 +47,10 @@ use Rattle.ca_world_data.specs.Logs.{lines_in}
 use Rattle.ca_world_data.specs.Opening.{entries_in}
 use Rattle.ca_world_data.specs.Seen.{entry_of, line_of}
 use Rattle.ca_world.specs.Counted.{AllLines, Counted, HasEntries, HasLines}
+use Rattle.ca_world.specs.Reported.{AllReported, HasReported}
 use Rattle.ca_world.specs.Unstamped.{IsUnstamped}
 use Rattle.ca_world.specs.Whole.{IsReached}
+use Rattle.ca_world.proofs.Reported.{accepts-reported, gives-reported, reported-all, sends-reported}
 
 -- ---- cores
 
@@ -124,8 +127,9 @@ accepts-tally y new (Err e) g is does = absurd cc
 abbrev Keeps : ServerSide → List (List Entry) → Type 0
 Keeps y logs = HasEntries y logs × IsUnstamped y.core
 
+-- so it is with all, and each end of them that ended was reported
 abbrev AllKeep : List ServerSide → List (List Entry) → Type 0
-AllKeep ys logs = (i : ℕ) (y : ServerSide) → At ys i y → Keeps y logs
+AllKeep ys logs = (i : ℕ) (y : ServerSide) → At ys i y → Keeps y logs × HasReported y.core
 
 -- a server goes on with n entries more
 keeps-on : (y : ServerSide) (logs new : List (List Entry)) (n : ℕ) (core : Server) (rs : List RecordSide) (added : ℕ) → Longer logs new → log_length y.life logs + n ≤ log_length y.life new → added ≤ y.added + n → Tallies n y.core (tally core) → Keeps y logs
@@ -152,19 +156,19 @@ keeps-grown y logs more core rs added few t h =
     keeps-on y logs (grown y.life more logs) (length more) core rs added (longer-grown logs y.life more) (omega (arith, long)) few t h
 
 all-longer : (ys : List ServerSide) (logs new : List (List Entry)) → Longer logs new → AllKeep ys logs → AllKeep ys new
-all-longer ys logs new more all i y at = keeps-same y logs new y.core y.records more refl (all i y at)
+all-longer ys logs new more all i y at = (keeps-same y logs new y.core y.records more refl (all i y at).0, (all i y at).1)
 
-all-set : (ys : List ServerSide) (logs new : List (List Entry)) (i : ℕ) (z : ServerSide) → Longer logs new → AllKeep ys logs → Keeps z new → AllKeep (slice_set ys i z) new
-all-set ys logs new i z more all one k x at = elim (At-set ys i z k x at) [
-  | inl here ↦ subst (λ (v : ServerSide). Keeps v new) (sym here.1) one
+all-set : (ys : List ServerSide) (logs new : List (List Entry)) (i : ℕ) (z : ServerSide) → Longer logs new → AllKeep ys logs → Keeps z new → HasReported z.core → AllKeep (slice_set ys i z) new
+all-set ys logs new i z more all one told k x at = elim (At-set ys i z k x at) [
+  | inl here ↦ subst (λ (v : ServerSide). Keeps v new × HasReported v.core) (sym here.1) (one, told)
   | inr old ↦ all-longer ys logs new more all k x old.0
 ]
 
 -- where bytes move
-all-told : (ys : List ServerSide) (logs : List (List Entry)) (i : ℕ) (y : ServerSide) (core : Server) → At ys i y → tally core ≡ tally y.core → AllKeep ys logs → AllKeep (slice_set ys i (record y { core = core })) logs
-all-told ys logs i y core at same all =
+all-told : (ys : List ServerSide) (logs : List (List Entry)) (i : ℕ) (y : ServerSide) (core : Server) → At ys i y → tally core ≡ tally y.core → HasReported core → AllKeep ys logs → AllKeep (slice_set ys i (record y { core = core })) logs
+all-told ys logs i y core at same told all =
     let self : Longer logs logs = longer-self logs logs refl in
-    all-set ys logs logs i (record y { core = core }) self all (keeps-same y logs logs core y.records self same (all i y at))
+    all-set ys logs logs i (record y { core = core }) self all (keeps-same y logs logs core y.records self same (all i y at).0) told
 
 -- a call of a server is over
 over-keeps : (mid : World) (i : ℕ) (side : ServerSide) (ends : Joined → Option (List ℕ)) (core : Server) → AllKeep mid.servers mid.server_logs → Keeps (record side { core = core }) mid.server_logs
@@ -174,13 +178,13 @@ over-keeps mid i side ends core all one =
     let logs : List (List Entry) = grown side.life (withdrawals gone side.records) mid.server_logs in
     let rs : List RecordSide = map (without_puts gone) side.records in
     let more : Longer mid.server_logs logs = longer-grown mid.server_logs side.life (withdrawals gone side.records) in
-    all-set mid.servers mid.server_logs logs i (record side { core = reported core; records = rs }) more all (keeps-same (record side { core = core }) mid.server_logs logs (reported core) rs more refl one)
+    all-set mid.servers mid.server_logs logs i (record side { core = reported core; records = rs }) more all (keeps-same (record side { core = core }) mid.server_logs logs (reported core) rs more refl one) (reported-all core)
 
 -- so it is by a call that logs nothing, and tells the same
 over-same : (w : World) (i : ℕ) (y : ServerSide) (ends : Joined → Option (List ℕ)) (core : Server) (ks : List Joined) → At w.servers i y → tally core ≡ tally y.core → AllKeep w.servers w.server_logs
     → (let mid : World = record w { circuits = ks } in AllKeep (server_after i y ends core mid).servers (server_after i y ends core mid).server_logs)
 over-same w i y ends core ks at same all =
-    over-keeps (record w { circuits = ks }) i y ends core all (keeps-same y w.server_logs w.server_logs core y.records (longer-self w.server_logs w.server_logs refl) same (all i y at))
+    over-keeps (record w { circuits = ks }) i y ends core all (keeps-same y w.server_logs w.server_logs core y.records (longer-self w.server_logs w.server_logs refl) same (all i y at).0)
 
 -- what holds of a world, whatever its circuits are, holds where a circuit is noted or changed
 at-keeps : (P : World → Type 0) (w : World) (k : ℕ) (f : Joined → Joined) (o : Option Joined) → P w → ((c : Joined) → P (with_circuit k c w)) → P (unwrap_or (option_map (λ (c : Joined). with_circuit k (f c) w) o) w)
@@ -204,7 +208,7 @@ module _ (w : World) (k : ℕ) (j : Joined) (y : ServerSide) (action : Action) (
   acted-keeps : AllKeep (slice_set w.servers j.server (record y { records = after })) logs
   acted-keeps =
       all-set w.servers w.server_logs logs j.server (record y { records = after }) (longer-grown w.server_logs y.life entries) all
-      (keeps-same y w.server_logs logs y.core after (longer-grown w.server_logs y.life entries) refl (all j.server y at))
+      (keeps-same y w.server_logs logs y.core after (longer-grown w.server_logs y.life entries) refl (all j.server y at).0) (all j.server y at).1
 
   over-acted : (ends : Joined → Option (List ℕ)) (core : Server) → Tallies (length entries) y.core (tally core)
       → (let mid : World = acted k j y action w in let new : World = server_after j.server (side_of j.server y mid) ends core mid in AllKeep new.servers new.server_logs)
@@ -213,7 +217,7 @@ module _ (w : World) (k : ℕ) (j : Joined) (y : ServerSide) (action : Action) (
       let mid : World = acted k j y action w in
       let is : side_of j.server y mid ≡ side = ap (λ (o : Option ServerSide). unwrap_or o y) (set-here w.servers j.server y side at) in
       over-keeps mid j.server (side_of j.server y mid) ends core acted-keeps
-      (subst (λ (s : ServerSide). Keeps (record s { core = core }) logs) (sym is) (keeps-grown y w.server_logs entries core after y.added (omega arith) t (all j.server y at)))
+      (subst (λ (s : ServerSide). Keeps (record s { core = core }) logs) (sym is) (keeps-grown y w.server_logs entries core after y.added (omega arith) t (all j.server y at).0))
 
 -- a server that begins, with the log of its records
 numbered-long : {A B : Type 0} (f : ℕ → A → B) (xs : List A) (n : ℕ) → length (numbered n f xs) ≡ length xs
@@ -292,14 +296,14 @@ ticks-hold moment (i ∷ clients) w new all folds =
     let t = folds.1 in
     ticks-hold moment clients folds.0 new (subst (λ (v : World). Holds v) (sym t.6) (said-holds w i t.0 t.4 (t.0).names _ t.1 (omega arith) all)) folds.2
 
-up-holds : (b : Bool) (w : World) (k : ℕ) (j d : Joined) (x : ClientSide) (core : Client) (y : ServerSide) (given : Server) → At w.clients j.client x → At w.servers j.server y → tally given ≡ tally y.core → Holds w
+up-holds : (b : Bool) (w : World) (k : ℕ) (j d : Joined) (x : ClientSide) (core : Client) (y : ServerSide) (given : Server) → At w.clients j.client x → At w.servers j.server y → tally given ≡ tally y.core → HasReported given → Holds w
     → Holds (with_server j.server (record y { core = given }) (if b then with_client j.client (record x { core = core }) w else with_circuit k d w))
-up-holds true w k j d x core y given client at same (ls, es) = (lines-same w.clients w.client_logs j.client x core client ls, all-told w.servers w.server_logs j.server y given at same es)
-up-holds false w k j d x core y given client at same (ls, es) = (ls, all-told w.servers w.server_logs j.server y given at same es)
+up-holds true w k j d x core y given client at same told (ls, es) = (lines-same w.clients w.client_logs j.client x core client ls, all-told w.servers w.server_logs j.server y given at same told es)
+up-holds false w k j d x core y given client at same told (ls, es) = (ls, all-told w.servers w.server_logs j.server y given at same told es)
 
 taken-holds : (w mid : World) (k n : ℕ) (j : Joined) (x : ClientSide) (y : ServerSide) → At w.clients j.client x → At w.servers j.server y → Holds w → DownTaken w k n j y mid → Holds mid × At mid.clients j.client x
 taken-holds w mid k n j x y client at (ls, es) (inl on) =
-    subst (λ (v : World). Holds v × At v.clients j.client x) (sym on.1.2) ((ls, all-told w.servers w.server_logs j.server y on.1.0 at (sends-tally y.core on.1.0 j.at_server n on.1.1) es), client)
+    subst (λ (v : World). Holds v × At v.clients j.client x) (sym on.1.2) ((ls, all-told w.servers w.server_logs j.server y on.1.0 at (sends-tally y.core on.1.0 j.at_server n on.1.1) (sends-reported y.core on.1.0 j.at_server n (es j.server y at).1 on.1.1) es), client)
 taken-holds w mid k n j x y client at all (inr off) = subst (λ (v : World). Holds v × At v.clients j.client x) (sym off.1) (all, client)
 
 stepped-holds : (w new : World) (k : ℕ) (j : Joined) (y : ServerSide) (did : server.Stepped) → At w.servers j.server y → Holds w → ServerStepped w k j y did new → Holds new
@@ -326,7 +330,7 @@ stepped-holds w new k j y (server.Closed why.OutOfMemory left) at (ls, es) steps
         let one : side_of j.server y w ≡ y = ap (λ (o : Option ServerSide). unwrap_or o y) at in (
           ls,
           over-keeps w j.server (side_of j.server y w) (ends_here j left j.server steps.core) steps.core es
-              (subst (λ (s : ServerSide). Keeps (record s { core = steps.core }) w.server_logs) (sym one) (keeps-same y w.server_logs w.server_logs steps.core y.records (longer-self w.server_logs w.server_logs refl) (closed ∙ ap tally is) (es j.server y at))),
+              (subst (λ (s : ServerSide). Keeps (record s { core = steps.core }) w.server_logs) (sym one) (keeps-same y w.server_logs w.server_logs steps.core y.records (longer-self w.server_logs w.server_logs refl) (closed ∙ ap tally is) (es j.server y at).0)),
         )
     go (Some gone) is =
         let p : PutPlace = record { circuit = k; place = length j.lists.handled } in
@@ -344,9 +348,9 @@ finished-holds w new i y name at (ls, es) (inl did) =
     let more : List Entry = finish_entry did.p ∷ next_entries y did.r (first_of did.cr.waiting) (first_of did.r.waiting) in
     let logs : List (List Entry) = grown y.life more w.server_logs in
     let t = finish-tally y.core did.core name did.sent did.finishes in
-    let one : Keeps (record y { core = did.core; records = rs }) logs = keeps-grown y w.server_logs more did.core rs y.added (omega arith) (t.0, (let few : did.core.applied ≤ y.core.applied + 1 = t.1 in omega (arith, few))) (es i y at) in
+    let one : Keeps (record y { core = did.core; records = rs }) logs = keeps-grown y w.server_logs more did.core rs y.added (omega arith) (t.0, (let few : did.core.applied ≤ y.core.applied + 1 = t.1 in omega (arith, few))) (es i y at).0 in
     let all : AllKeep (slice_set w.servers i (record y { records = rs })) logs = all-set w.servers w.server_logs logs i (record y { records = rs }) (longer-grown w.server_logs y.life more) es
-    (keeps-same y w.server_logs logs y.core rs (longer-grown w.server_logs y.life more) refl (es i y at)) in
+    (keeps-same y w.server_logs logs y.core rs (longer-grown w.server_logs y.life more) refl (es i y at).0) (es i y at).1 in
     let mid : World = finish_told w i y name did.cr did.r did.p in
     subst (λ (v : World). Holds v) (sym did.leaves)
     (at-keeps (λ (v : World). Holds (server_after i (record y { records = rs }) (ends_by i did.core) did.core v)) mid did.p.circuit _ (slice_get mid.circuits did.p.circuit)
@@ -372,12 +376,12 @@ happens-holds w new (event.Accept i) (ls, es) h = elim h.1.leaves [
   | inr did ↦
       let v = h.0.v in
       subst (λ (z : World). Holds z) (sym did.6)
-      (lines-said w.clients w.client_logs i h.0.x did.3 h.0.x.names _ h.0.at (omega arith) ls, all-told w.servers w.server_logs v.i v.y h.1.server v.there.0 (accepts-tally v.y.core h.1.server h.1.answer did.0 did.4 h.1.accepts) es)
+      (lines-said w.clients w.client_logs i h.0.x did.3 h.0.x.names _ h.0.at (omega arith) ls, all-told w.servers w.server_logs v.i v.y h.1.server v.there.0 (accepts-tally v.y.core h.1.server h.1.answer did.0 did.4 h.1.accepts) (accepts-reported v.y.core h.1.server h.1.answer did.0 (es v.i v.y v.there.0).1 did.4 h.1.accepts) es)
 ]
 happens-holds w new (event.Up k n) all h =
     let at = h.0.0 in
     subst (λ (v : World). Holds v) (sym h.1.2)
-    (up-holds at.j.lists.client_open w k at.j _ at.x (handed_over at.j.at_client n at.x.core) at.y h.1.0 at.joins.client at.joins.server (gives-tally at.y.core h.1.0 at.j.at_server _ h.1.1) all)
+    (up-holds at.j.lists.client_open w k at.j _ at.x (handed_over at.j.at_client n at.x.core) at.y h.1.0 at.joins.client at.joins.server (gives-tally at.y.core h.1.0 at.j.at_server _ h.1.1) (gives-reported at.y.core h.1.0 at.j.at_server _ (all.1 at.j.server at.y at.joins.server).1 h.1.1) all)
 happens-holds w new (event.Down k n) all h =
     let at = h.0.0 in
     let d = h.1 in
@@ -398,14 +402,14 @@ happens-holds w new (event.ServerRestart i) (ls, es) h =
     let s : ServerSetting = h.0.y.setting in
     let logs : List (List Entry) = w.server_logs ++ log_begun s ∷ [] in
     subst (λ (v : World). Holds v) (sym h.1)
-    (ls, all-set w.servers w.server_logs logs i (server_begun w.moment (length w.server_logs) s) (longer-snoc w.server_logs (log_begun s)) es (begun-keeps w.moment (length w.server_logs) s logs (At-last w.server_logs (log_begun s))))
+    (ls, all-set w.servers w.server_logs logs i (server_begun w.moment (length w.server_logs) s) (longer-snoc w.server_logs (log_begun s)) es (begun-keeps w.moment (length w.server_logs) s logs (At-last w.server_logs (log_begun s))) (λ n p at. absurd cc))
 happens-holds w new (event.Post i name e mask) (ls, es) h = elim h.1.2 [
   | inl did ↦
       let y : ServerSide = h.0.y in
       let mid : World = post_told w i y name (record { value = e; meta = unset }) mask in
       let more : Longer w.server_logs mid.server_logs = longer-grown w.server_logs y.life (posted_entry y name (record { value = e; meta = unset }) mask) in
       subst (λ (v : World). Holds v) (sym did.1)
-      (ls, over-keeps mid i y (ends_by i h.1.1) h.1.1 (all-longer w.servers w.server_logs mid.server_logs more es) (keeps-same y w.server_logs mid.server_logs h.1.1 y.records more (ap tally did.0.2) (es i y h.0.at)))
+      (ls, over-keeps mid i y (ends_by i h.1.1) h.1.1 (all-longer w.servers w.server_logs mid.server_logs more es) (keeps-same y w.server_logs mid.server_logs h.1.1 y.records more (ap tally did.0.2) (es i y h.0.at).0))
   | inr out ↦ subst (λ (v : World). Holds v) (sym out.3) (ls, es)
 ]
 happens-holds w new (event.Finish i name) all h = finished-holds w new i h.0.y name h.0.at all h.1
@@ -418,8 +422,8 @@ happens-holds w new (event.Remove i name) (ls, es) h = elim h.1.3 [
       let more : Longer w.server_logs logs = longer-grown w.server_logs y.life (removal_entries name y.records) in
       subst (λ (v : World). Holds v) (sym did.1) (
         ls,
-        over-keeps mid i (record y { records = rs }) (ends_by i h.1.2) h.1.2 (all-set w.servers w.server_logs logs i (record y { records = rs }) more es (keeps-same y w.server_logs logs y.core rs more refl (es i y h.0.at)))
-            (keeps-same y w.server_logs logs h.1.2 rs more (ap tally did.0.2) (es i y h.0.at)),
+        over-keeps mid i (record y { records = rs }) (ends_by i h.1.2) h.1.2 (all-set w.servers w.server_logs logs i (record y { records = rs }) more es (keeps-same y w.server_logs logs y.core rs more refl (es i y h.0.at).0) (es i y h.0.at).1)
+            (keeps-same y w.server_logs logs h.1.2 rs more (ap tally did.0.2) (es i y h.0.at).0),
       )
   | inr out ↦ subst (λ (v : World). Holds v) (sym out.1) (ls, es)
 ]
@@ -431,7 +435,8 @@ happens-holds w new (event.Add i r) (ls, es) h = elim h.1.2 [
       subst (λ (v : World). Holds v) (sym did.1) (
         ls,
         all-set w.servers w.server_logs (grown y.life more w.server_logs) i (record y { core = h.1.0; records = rs; added = y.added + 1 }) (longer-grown w.server_logs y.life more) es
-            (keeps-grown y w.server_logs more h.1.0 rs (y.added + 1) (omega arith) (tallies-same 1 y.core h.1.0 (ap tally did.0.1)) (es i y h.0.at)),
+            (keeps-grown y w.server_logs more h.1.0 rs (y.added + 1) (omega arith) (tallies-same 1 y.core h.1.0 (ap tally did.0.1)) (es i y h.0.at).0)
+            (subst HasReported (sym did.0.1) (es i y h.0.at).1),
       )
   | inr out ↦ subst (λ (v : World). Holds v) (sym out.3) (ls, es)
 ]
@@ -449,8 +454,8 @@ opening-holds s = (
   λ i y at.
       let r = numbered-place 0 (server_begun 0) s.servers i y at in
       let same : i ≡ 0 + i = omega arith in
-      subst (λ (v : ServerSide). Keeps v (map log_begun s.servers)) (sym r.2)
-      (begun-keeps 0 (0 + i) r.0 (map log_begun s.servers) (subst (λ (k : ℕ). At (map log_begun s.servers) k (log_begun r.0)) same (At-map log_begun s.servers i r.0 r.1))),
+      subst (λ (v : ServerSide). Keeps v (map log_begun s.servers) × HasReported v.core) (sym r.2)
+      (begun-keeps 0 (0 + i) r.0 (map log_begun s.servers) (subst (λ (k : ℕ). At (map log_begun s.servers) k (log_begun r.0)) same (At-map log_begun s.servers i r.0 r.1)), λ n p there. absurd cc),
 )
 
 events-hold : (es : List Event) (w new : World) → Holds w → FoldsTo Happens w es new → Holds new
@@ -462,10 +467,13 @@ run-holds w (s, es, ok, folds) = events-hold es (opening s) w (opening-holds s) 
 
 -- so it is in every run
 pub run-unstamped : (w : World) → IsReached w → (i : ℕ) (y : ServerSide) → At w.servers i y → IsUnstamped y.core
-run-unstamped w reached i y at = ((run-holds w reached).1 i y at).1
+run-unstamped w reached i y at = ((run-holds w reached).1 i y at).0.1
 
 pub run-counted : (w : World) → IsReached w → Counted w
-run-counted w reached = (let h = run-holds w reached in record { clients = h.0; servers = λ i y at. (h.1 i y at).0 })
+run-counted w reached = (let h = run-holds w reached in record { clients = h.0; servers = λ i y at. (h.1 i y at).0.0 })
+
+pub run-reported : (w : World) → IsReached w → AllReported w.servers
+run-reported w reached i y at = ((run-holds w reached).1 i y at).1
 
 -- ---- the logs of a program
 

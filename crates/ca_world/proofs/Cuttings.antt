@@ -25,13 +25,13 @@ use Rattle.ca_world_data.specs.declared.server.ServerSide.{ServerSide}
 use Rattle.ca_world_data.specs.Does.{Does}
 use Rattle.ca_world_data.specs.Ends.{AreEnds, NoEnds, ends_of}
 use Rattle.ca_world.specs.Whole.{IsReached}
-use Rattle.ca_world.specs.Reported.{AllReported, HasReported}
+use Rattle.ca_world.specs.Reported.{HasReported}
 use Rattle.ca_world_data.specs.Seen.{client_of, joined_of, record_of, server_of}
 use Rattle.ca_world_data.specs.ServerCuts.{CutsServer, IsServing}
 use Rattle.ca_world_data.specs.Withdrawing.{all_withdrawn}
 use Rattle.ca_world.proofs.Endings.{ends-number, ends-this, over-reports}
 use Rattle.ca_world_data.proofs.Indexes.{KeepsEnds, ends-stay}
-use Rattle.ca_world.proofs.Reported.{reported-events, reported-opening}
+use Rattle.ca_world.proofs.Counted.{run-reported}
 use Rattle.ca_world_data.proofs.Withdrawals.{told-all}
 use Rattle.ca_world_data.proofs.Worlds.{joins, none-joined, one-at, same-circuit, set-map, set-same, world_of}
 
@@ -41,9 +41,6 @@ use Rattle.ca_world_data.proofs.Worlds.{joins, none-joined, one-at, same-circuit
 
 pub run-stands : (w : model.World) → IsReached w → (s : Setting) × bytes.Stands s w
 run-stands w (s, es, ok, folds) = (s, events-stand s es (opening s) w ok folds (opening-stands s ok))
-
-pub run-reported : (w : model.World) → IsReached w → AllReported w.servers
-run-reported w (s, es, ok, folds) = reported-events es (opening s) w (reported-opening s) folds
 
 -- the end that is open serves
 pub serves-there : (w : model.World) (k : ℕ) (j : model.Joined) (y : model.ServerSide) → IsReached w → At w.circuits k j → At w.servers j.server y → j.lists.server_open ≡ true → IsServing y.core j.at_server

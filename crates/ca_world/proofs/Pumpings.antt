@@ -43,7 +43,8 @@ use Rattle.ca_world_data.proofs.Indexes.{KeepsEnds, ends-stay}
 use Rattle.ca_world_data.proofs.Withdrawals.{told-all}
 use Rattle.ca_world_data.proofs.UpdatesGiven.{bare-images}
 use Rattle.ca_world_data.proofs.Worlds.{joins, none-joined, one-at, same-circuit, set-map, set-same, world_of}
-use Rattle.ca_world.proofs.Cuttings.{run-reported, run-stands}
+use Rattle.ca_world.proofs.Counted.{run-reported}
+use Rattle.ca_world.proofs.Cuttings.{run-stands}
 use Rattle.ca_world.proofs.Downward.{at-set}
 use Rattle.ca_world.proofs.Endings.{ends-number, ends-this, over-reports}
 use Rattle.ca_world.proofs.Reported.{reported-changed}

@@ -1,16 +1,12 @@
 -- A call of a server is over, and none of its ends ended.
-use Rattle.std.proofs.Common.{◌≡◌, ℕ, ◌==◌, ◌&&◌, ◌++◌, Bool, true, false, not, List, [], ◌∷◌, Option, Some, None, refl, sym, ap, ◌∙◌}
+use Rattle.std.proofs.Common.{◌≡◌, ℕ, ◌==◌, ◌&&◌, ◌++◌, Bool, true, false, not, List, [], ◌∷◌, Option, Some, None, refl, ap, ◌∙◌}
 use Rattle.std.specs.Prelude.{filter, if◌then◌else◌, is_some, map, option_map, slice_get, unwrap_or}
 use Rattle.std.specs.List.{flat_map}
 use Rattle.ca_ids.specs.Table.{under}
 use Rattle.ca_model.specs.History as entry
-use Rattle.ca_model.specs.History.{Entry}
 use Rattle.ca_model.specs.Server.{Server}
 use Rattle.ca_model.specs.ServerEvents.{ending, ends_at, ends_by, left_by, reported, server_after, withdrawals, without_puts}
-use Rattle.ca_model.specs.World.{Joined, PutPlace, RecordSide, ServerSide, World, grown, with_entries, with_server}
-use Rattle.ca_world_data.specs.declared.server.ServerSide.{ServerSide as Side}
-use Rattle.ca_world_data.specs.Reporting.{Reports, gone_at}
-use Rattle.ca_world_data.specs.Seen.{record_of, server_of}
+use Rattle.ca_model.specs.World.{Joined, PutPlace, RecordSide, ServerSide, World, with_entries, with_server}
 use Rattle.ca_world_data.proofs.Silences.{grown-nil}
 use Rattle.ca_world.specs.Reported.{HasReported}
 use Rattle.ca_world.proofs.Endings.{freed-none, none-under}
@@ -74,21 +70,3 @@ after-none i y core w all =
     (with_server i (record y { core = reports-none core all t; records = map (without_puts (at-none w.circuits t)) y.records }) (record w { circuits = ends-none w.circuits t })))
     ∙ (λ t. with_entries y.life (told-none y.records t) (with_server i (record y { core = core; records = records-all y.records t }) w))
     ∙ (λ t. record (with_server i (record y { core = core }) w) { server_logs = grown-nil y.life w.server_logs t })
-
--- a server whose ends are reported has none to report
-pub quiet-reports : (i : ℕ) (y : Side) (ks : List Joined) (logs : List (List Entry)) → HasReported y.core → Reports i y ks logs y ks logs
-quiet-reports i y ks logs all =
-    let rs : List RecordSide = map record_of y.records.items in
-    let none : ends_by i y.core ≡ none_end = none-ends i y.core all in
-    let gone : gone_at i y.core ks ≡ nobody = ap (λ (ends : Joined → Option (List ℕ)). ends_at ends ks) none ∙ at-none ks in
-    let kept : map (without_puts (gone_at i y.core ks)) rs ≡ rs = ap (λ (g : ℕ → Bool). map (without_puts g) rs) gone ∙ records-all rs in
-    let core : reported y.core ≡ y.core = reports-none y.core all in
-    let circuits : map (ending (ends_by i y.core)) ks ≡ ks = ap (λ (ends : Joined → Option (List ℕ)). map (ending ends) ks) none ∙ ends-none ks in
-    let logged : grown y.life (withdrawals (gone_at i y.core ks) rs) logs ≡ logs =
-    ap (λ (g : ℕ → Bool). grown y.life (withdrawals g rs) logs) gone ∙ ap (λ (es : List Entry). grown y.life es logs) (told-none rs) ∙ grown-nil y.life logs in
-    record {
-      side = (λ t. record (server_of y) { core = sym core t; records = sym kept t });
-      numbers = refl;
-      circuits = sym circuits;
-      logged = sym logged;
-    }

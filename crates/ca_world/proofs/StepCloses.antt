@@ -92,7 +92,6 @@ may-one t core j ks rs a m known here waited applied few = record {
   beside = m.beside;
   apart = m.apart;
   unstamped = m.unstamped;
-  reported = m.reported;
 }
 
 -- what holds before anything is looked at, and what was looked at

@@ -1,7 +1,7 @@
 -- What is known of the circuits once a message was handled: for what it did to be told, and
 -- for its end to close.
-use Rattle.std.proofs.Common.{◌≡◌, ℕ, ◌<◌, inl, inr, Bool, true, false, List, [], Option, Some, None, refl, sym, ap, subst, ◌∙◌}
-use Rattle.std.specs.Prelude.{if◌then◌else◌, map, slice_set}
+use Rattle.std.proofs.Common.{◌≡◌, ℕ, ◌<◌, inl, inr, Bool, true, List, [], Option, Some, None, refl, sym, ap, subst, ◌∙◌}
+use Rattle.std.specs.Prelude.{map, slice_set}
 use Rattle.ca_arena.specs.declared.handle.Handle.{Handle}
 use Rattle.ca_ids.specs.Table.{Table, under, with_changed}
 use Rattle.ca_link.specs.Link.{with_rest, with_sent}
@@ -10,7 +10,7 @@ use Rattle.ca_text.proofs.Places.{At-map, At-mapped, At-set}
 use Rattle.ca_model.specs.Due.{Action, Adds, Applies, Clears, Drops, Greets, Names, Nothing, Opens, Switches, Waits}
 use Rattle.ca_model.specs.History.{Step, Told}
 use Rattle.ca_model.specs.Server.{Ended, Open, Server, ServerCircuit, ServerEnd, key_of}
-use Rattle.ca_model.specs.ServerSteps.{Handles, HasEnd, Next, Reaches, Records, is_write, reached, stored_now, write_mask}
+use Rattle.ca_model.specs.ServerSteps.{Handles, HasEnd, Next, Reaches, is_write, reached, stored_now, write_mask}
 use Rattle.ca_model.specs.Speech.{Stored}
 use Rattle.ca_model.proofs.Handles.{handle-or}
 use Rattle.ca_model.proofs.Placed.{under-other}
@@ -21,7 +21,6 @@ use Rattle.ca_model.specs.World.{Joined, RecordSide}
 use Rattle.ca_server_circuit.specs.declared.effect.Effect.{Effect}
 use Rattle.ca_world.specs.declared.server_step.SteppingEnd.{SteppingEnd}
 use Rattle.ca_world.specs.ServerStepping.{with_lists}
-use Rattle.ca_world.specs.Reported.{HasReported, IsReportedTable}
 use Rattle.ca_world.specs.StepParts.{IsHandled, MayStep}
 use Rattle.ca_world_data.specs.declared.joined.Joined.{Joined as Opened}
 use Rattle.ca_world_data.specs.Numbering.{AllAlike, AllMayCount, AreAlike, IsAlike, keys_within, post_limit}
@@ -32,9 +31,7 @@ use Rattle.ca_world_servers.specs.declared.ahead.Ahead.{Ahead}
 use Rattle.ca_world_servers.specs.Effects.{wrote_by}
 use Rattle.ca_world_servers.proofs.Dealt.{busies_of, wrote-due}
 use Rattle.ca_world_servers.proofs.Done.{WasDone}
-use Rattle.ca_wire.specs.Fields.{Fields}
 use Rattle.ca_world.proofs.Postings.{each-under, reached-alike}
-use Rattle.ca_world.proofs.Reported.{reported-changed}
 use Rattle.ca_world.proofs.StepNumbers.{wrote-circuits}
 
 -- ---- by the action
@@ -129,43 +126,6 @@ alike-wrote y h e has next gone core reaches wrote i ks alike = go next.action n
     go (Drops key) handles reaches wrote = absurd cc
     go (Switches on) handles reaches wrote = absurd cc
 
--- another action leaves the ends of the other circuits as they are
-quiet-action : (action : Action) → busies_of action ≡ None → is_write action ≡ false
-quiet-action (Applies name value b) none = absurd cc
-quiet-action (Waits name value) none = refl
-quiet-action (Clears sid) none = refl
-quiet-action Nothing none = refl
-quiet-action Greets none = refl
-quiet-action (Names p) none = refl
-quiet-action (Opens c) none = refl
-quiet-action (Adds s) none = refl
-quiet-action (Drops key) none = refl
-quiet-action (Switches on) none = refl
-
-quiet-records : (y : Server) (h : Handle) (e : ServerEnd) (m : Fields) (action : Action) (new : Server) → is_write action ≡ false → Records y h e m action new → new.circuits ≡ y.circuits
-quiet-records y h e m (Applies name value b) new none is = absurd cc
-quiet-records y h e m (Waits name value) new none is = ap (λ (z : Server). z.circuits) is.2
-quiet-records y h e m (Clears sid) new none is = ap (λ (z : Server). z.circuits) is
-quiet-records y h e m Nothing new none is = ap (λ (z : Server). z.circuits) is
-quiet-records y h e m Greets new none is = ap (λ (z : Server). z.circuits) is
-quiet-records y h e m (Names p) new none is = ap (λ (z : Server). z.circuits) is
-quiet-records y h e m (Opens c) new none is = ap (λ (z : Server). z.circuits) is
-quiet-records y h e m (Adds s) new none is = ap (λ (z : Server). z.circuits) is
-quiet-records y h e m (Drops key) new none is = ap (λ (z : Server). z.circuits) is
-quiet-records y h e m (Switches on) new none is = ap (λ (z : Server). z.circuits) is
-
-quiet-reaches : (action : Action) (gone : Handle → Bool) (y new : Server) → is_write action ≡ false → Reaches action gone y new → new ≡ y
-quiet-reaches (Applies name value b) gone y new none is = absurd cc
-quiet-reaches (Waits name value) gone y new none is = is.1
-quiet-reaches (Clears sid) gone y new none is = is.1
-quiet-reaches Nothing gone y new none is = is.1
-quiet-reaches Greets gone y new none is = is.1
-quiet-reaches (Names p) gone y new none is = is.1
-quiet-reaches (Opens c) gone y new none is = is.1
-quiet-reaches (Adds s) gone y new none is = is.1
-quiet-reaches (Drops key) gone y new none is = is.1
-quiet-reaches (Switches on) gone y new none is = is.1
-
 -- ---- a message that was handled
 
 module _ (before core : Server) (j : Joined) (ks : List Joined) (rs : List RecordSide) (a : Ahead) (t : SteppingEnd) (did : Effect) (m : MayStep t before j ks rs a) (d : IsHandled before core j.at_server m.e did) where
@@ -184,15 +144,6 @@ module _ (before core : Server) (j : Joined) (ks : List Joined) (rs : List Recor
   -- whether it wrote
   handled-wrote : wrote_by did ≡ busies_of d.next.action
   handled-wrote = ap (λ (e : Effect). wrote_by e) d.tells ∙ wrote-due d.next.m d.next.action
-
-  -- no end has ended by it, if it was no write
-  pub handled-reported : wrote_by did ≡ None → HasReported core
-  handled-reported none =
-      let quiet : is_write d.next.action ≡ false = quiet-action d.next.action (sym handled-wrote ∙ none) in
-      let h = d.next.handles in
-      let recorded : HasReported h.recorded = subst IsReportedTable (sym (quiet-records before j.at_server (record m.e { link = with_rest d.next.rest m.e.link }) d.next.m d.next.action h.recorded quiet h.records)) m.reported in
-      let after : HasReported d.next.after = subst HasReported (sym h.leaves) (reported-changed h.recorded.circuits j.at_server _ recorded) in
-      subst HasReported (sym (quiet-reaches d.next.action d.gone d.next.after core quiet d.reaches)) after
 
   -- a write does nothing to its own circuit beside the numbers
   pub handled-same : (busies : Bool) → wrote_by did ≡ Some busies → (place : ℕ) → numbers_after place d.next.action j ≡ j

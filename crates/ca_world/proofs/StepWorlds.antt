@@ -46,7 +46,7 @@ use Rattle.ca_world.specs.Resting.{ComesUp, StepsOrRests}
 use Rattle.ca_world.specs.StepParts.{MayBegin}
 use Rattle.ca_world.specs.Whole.{IsReached}
 use Rattle.ca_world.proofs.Additions.{others-apart, run-order}
-use Rattle.ca_world.proofs.Cuttings.{run-reported, run-stands, serves-there}
+use Rattle.ca_world.proofs.Cuttings.{run-stands, serves-there}
 use Rattle.ca_world.proofs.Postings.{ending-keeps, posted-keeps, run-alike}
 use Rattle.ca_world.proofs.Rests.{run-comes}
 use Rattle.ca_world.proofs.Seating.{run-seated}
@@ -101,7 +101,6 @@ run-may-begin w k j y reached fit at server on =
       beside = beside-by y.core.records y.records (run-order w j.server y reached server);
       apart = others-apart y.records l.life.others;
       unstamped = run-unstamped w reached j.server y server;
-      reported = run-reported w reached j.server y server;
     }
 
 -- ---- circuits keep their ends

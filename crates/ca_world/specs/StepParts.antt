@@ -15,7 +15,6 @@ use Rattle.ca_model.specs.ServerEvents.{about, numbers_after}
 use Rattle.ca_model.specs.World.{Joined, RecordSide, log_length}
 use Rattle.ca_server_circuit.specs.Effects.{effect_due}
 use Rattle.ca_server_circuit.specs.declared.effect.Effect.{Effect}
-use Rattle.ca_world.specs.Reported.{HasReported}
 use Rattle.ca_world.specs.ServerStepping.{StepsAt, with_lists}
 use Rattle.ca_world.specs.declared.server_step.Prepared.{Prepared}
 use Rattle.ca_world.specs.declared.server_step.SteppingEnd.{SteppingEnd}
@@ -68,7 +67,6 @@ pub record MayStep (t : SteppingEnd) (core : Server) (j : Joined) (ks : List Joi
   pub beside : AreBeside core.records rs
   pub apart : AreApart rs
   pub unstamped : core.stamp ≡ record { seconds = 0; nanos = 0 }
-  pub reported : HasReported core
 
 -- The same before anything is looked at.
 pub record MayBegin (i : ℕ) (core : Server) (j : Joined) (ks : List Joined)
@@ -86,7 +84,6 @@ pub record MayBegin (i : ℕ) (core : Server) (j : Joined) (ks : List Joined)
   pub beside : AreBeside core.records rs
   pub apart : AreApart rs
   pub unstamped : core.stamp ≡ record { seconds = 0; nanos = 0 }
-  pub reported : HasReported core
 
 -- A circuit has room for the step of a message of this command, for its replies, and for what it
 -- may begin there.
@@ -132,7 +129,7 @@ pub record AreAside (j : Joined) (r : Prepared) : Type 0 where
   pub room_down : vec_len r.down + length r.told.items ≤ vec_capacity r.down
   pub room_handled : vec_len r.handled + 1 ≤ vec_capacity r.handled
 
--- What a message did is told, ends that ended by its write are reported, and it is noted on its
+-- What a message did is told, ends that ended by it are reported, and it is noted on its
 -- circuit. The circuits are those with the lists of circuit k aside.
 pub record NotesAt (k i : ℕ) (did : Effect) (a : Ahead) (r : Prepared) (y : ServerSide)
     (ks : List Joined) (logs : List (List history.Entry)) (y' : ServerSide) (ks' : List Joined)

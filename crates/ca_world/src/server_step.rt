@@ -14,7 +14,6 @@ ghost use Rattle.ca_model.specs.ServerEvents.{about};
 ghost use Rattle.ca_wire.specs.Fields.{Fields};
 ghost use Rattle.ca_world_servers.specs.Losing.{AreSeated};
 ghost use Rattle.ca_world.specs.Counted.{HasEntries};
-ghost use Rattle.ca_world.specs.Reported.{HasReported};
 ghost use Rattle.ca_world.specs.Resting.{ComesUp, StepsOrRests};
 ghost use Rattle.ca_world.specs.ServerStepping.{StepsAt, with_lists};
 ghost use Rattle.ca_world.specs.StepParts.{AreAside, ClosesWith, HasRoomAhead, IsAheadOf};
@@ -25,7 +24,7 @@ ghost use Rattle.ca_world_data.specs.Does.{Does};
 ghost use Rattle.ca_world_data.specs.Numbering.{AllAlike, AllMayCount};
 ghost use Rattle.ca_world_data.specs.Opening.{entries_in};
 ghost use Rattle.ca_world_data.specs.Replies.{AreWithin, IsSpare};
-ghost use Rattle.ca_world_data.specs.Reporting.{AreServed, Reports, waits};
+ghost use Rattle.ca_world_data.specs.Reporting.{AreServed, waits};
 ghost use Rattle.ca_world_data.specs.Seen.{joined_of, queue_of, record_of, server_of, step_of};
 ghost use Rattle.ca_world_data.specs.Seen.{told_of};
 ghost use Rattle.ca_world_data.specs.ServerCuts.{HasRoomFor};
@@ -52,7 +51,7 @@ use ca_world_data::server::{PutPlace, RecordSide, ServerSide};
 use ca_world_servers::ahead::{Ahead, look_at};
 use ca_world_servers::coming::Coming;
 use ca_world_servers::doing::{tell_effect, tell_write};
-use ca_world_servers::effects::{tell_on, wrote_by, wrote_of};
+use ca_world_servers::effects::{tell_on, wrote_of};
 use ca_world_servers::handling::{note_handled, reserve_begin, reserve_handled};
 use std::alloc::{AllocError, Global};
 
@@ -419,8 +418,8 @@ fn take_lists(alloc: Global, joined: &mut Joined) -> (Vec<Told>, Vec<Step>)
     (down, handled)
 }
 
-// What the message did is told, ends that ended by its write are reported, and it is
-// noted on its circuit.
+// What the message did is told, ends that ended by it are reported, and it is noted on its
+// circuit.
 fn note(
     turn: &SteppingEnd,
     side: &mut ServerSide,
@@ -437,7 +436,6 @@ fn note(
         → wrote_by effect ≡ Some busies → ahead.write ≡ Some w → AllMayCount circuits.old.items }
     requires apart { AreApart (map record_of side.old.records.items) }
     requires parted { IsPartingOf ahead.parting (map record_of side.old.records.items) }
-    requires reported { wrote_by effect ≡ None → HasReported side.old.core }
     requires served { AreServed
         side.old.circuits.items
         (map joined_of circuits.old.items)
@@ -482,7 +480,7 @@ fn note(
         ahead.write,
         ahead.parting,
     );
-    report_written(turn, effect, side, circuits, logs);
+    report_ends(turn.alloc, turn.server, side, circuits, logs);
     let after = logged_of(logs, side.life);
     let step = Step {
         sent,
@@ -490,35 +488,6 @@ fn note(
         after,
     };
     note_on(&mut circuits[turn.circuit], down, handled, step, told);
-}
-
-// Ends that ended by a write are reported. By another message none ended.
-fn report_written(
-    turn: &SteppingEnd,
-    effect: Effect,
-    side: &mut ServerSide,
-    circuits: &mut Vec<Joined>,
-    logs: &mut Vec<Vec<LogEntry>>,
-)
-    requires reported { wrote_by effect ≡ None → HasReported side.old.core }
-    requires room { HasRoomFor (waits side.old.records.items) side.old.life logs.old.items }
-    requires served { AreServed
-        side.old.circuits.items
-        (map joined_of circuits.old.items)
-        turn.now.server }
-    ensures { Reports
-        turn.now.server
-        side.old
-        (map joined_of circuits.old.items)
-        (entries_in logs.old.items)
-        side.new
-        (map joined_of circuits.new.items)
-        (entries_in logs.new.items) }
-{
-    let Some(_) = wrote_by(effect) else {
-        return;
-    };
-    report_ends(turn.alloc, turn.server, side, circuits, logs);
 }
 
 // The lists of the circuit are given back, and the message is noted as handled in this

@@ -4,7 +4,7 @@
 ghost use Rattle.std.specs.Prelude.{◌≡◌, map};
 ghost use Rattle.ca_world_data.specs.Seen.{joined_of, queue_of};
 ghost use Rattle.ca_world_servers.specs.Effects.{BeginsNew, HasRoomBy, is_busy_in, numbers_by};
-ghost use Rattle.ca_world_servers.specs.Effects.{wrote_by, wrote_in};
+ghost use Rattle.ca_world_servers.specs.Effects.{wrote_in};
 ghost use Rattle.ca_world_servers.specs.Losing.{AreSeated};
 
 use crate::coming::Coming;
@@ -34,25 +34,6 @@ pub fn tell_on(joined: &mut Joined, effect: Effect, place: usize)
         Effect::Wrote(_) => {}
         Effect::Busied(_) => {}
         Effect::Queued(_) => {}
-    }
-}
-
-/// Whether a write was applied, and then whether it made its record busy.
-pub fn wrote_by(effect: Effect) -> Option<bool>
-    ensures { result ≡ wrote_by effect }
-{
-    match effect {
-        Effect::Wrote(_) => Some(false),
-        Effect::Busied(_) => Some(true),
-        Effect::Quiet => None,
-        Effect::Refused => None,
-        Effect::WriteRefused(_) => None,
-        Effect::Queued(_) => None,
-        Effect::Created(_) => None,
-        Effect::Cleared(_) => None,
-        Effect::Subscribed(_, _) => None,
-        Effect::Cancelled(_, _) => None,
-        Effect::Switched(_) => None,
     }
 }
 

@@ -12,7 +12,7 @@ use Rattle.ca_world_data.specs.Opening.{entries_in}
 use Rattle.ca_world_data.specs.Reporting.{AreServed}
 use Rattle.ca_world_data.specs.Seen.{joined_of, record_of, step_of}
 use Rattle.ca_world_data.proofs.Worlds.{found, set-map}
-use Rattle.ca_world.proofs.StepFacts.{alike-after, counts-set, handled-reported, handled-same, keeps-noted, served-set}
+use Rattle.ca_world.proofs.StepFacts.{alike-after, counts-set, handled-same, keeps-noted, served-set}
 use Rattle.ca_world.proofs.StepHandled.{step-handled}
 use Rattle.ca_world.proofs.server_step.tell_step.Goals as goal
 
@@ -101,22 +101,6 @@ note-requires-clause-parted c =
     let d = w.1 (joined_of x) there in
     let ahead = d.0.ahead d.1.next in
     ahead.parted
-
-pub note-requires-clause-reported : goal.note-requires-clause-reported
-note-requires-clause-reported c = λ none.
-    let t = c.args.turn.now in
-    let k : ℕ = t.circuit in
-    let items : List Joined = c.args.circuits.now.items in
-    let x : Joined = c.index_mut.result.now in
-    let ks : List model.Joined = map joined_of items in
-    let rs : List model.RecordSide = map record_of c.args.side.now.records.items in
-    let core : Server = c.args.side.now.core in
-    let within : k < length items = subst (λ (n : ℕ). k < n) c.args.circuits.now.ok.0 c.requires.within in
-    let at : At items k x = found items k x x within c.index_mut.ensures.value in
-    let there : At ks k (joined_of x) = At-map joined_of items k x at in
-    let w = c.requires.was in
-    let d = w.1 (joined_of x) there in
-    handled-reported w.0 core (joined_of x) ks rs c.args.ahead t c.args.effect d.0 d.1 none
 
 pub note-requires-clause-served : goal.note-requires-clause-served
 note-requires-clause-served c =
