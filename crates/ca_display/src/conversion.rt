@@ -144,10 +144,10 @@ fn to_numbers<S: Numeric>(alloc: Global, items: &[S], base: BaseType) -> Result<
 /// Whole numbers go to FLOAT and DOUBLE, and a DOUBLE to a FLOAT, by nearest; FLOAT and DOUBLE go
 /// to a whole number towards zero. A text is the number that it writes, or for an ENUM the state
 /// whose name it is; an ENUM is as a text its state's name, if it has one, else its number, and a
-/// FLOAT or DOUBLE is as text what EPICS Base shows of it, by the precision. What is too far from
-/// zero for a FLOAT or DOUBLE is infinite. Refused by the first element at fault: as BadText if it
-/// writes no number, as OutOfRange if it is outside a whole type; then as OutOfMemory, only if
-/// there are elements.
+/// FLOAT or DOUBLE what EPICS Base shows of it by the precision. What is too far from zero for a
+/// FLOAT or DOUBLE is infinite. Refused by the first element at fault: as BadText if it writes no
+/// number, as OutOfRange if it is outside a whole type; then as OutOfMemory, only if there are
+/// elements.
 pub fn convert_display(
     alloc: Global,
     value: &Value,

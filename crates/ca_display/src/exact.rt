@@ -49,7 +49,8 @@ fn times(digits: &Digits, factor: u64) -> Digits
 {
     let mut product = ArrayVec::new();
     let mut carry = 0;
-    for digit in digits.as_slice() {
+    let items = digits.as_slice();
+    for digit in items {
         carry += u64::from(*digit) * factor;
         product.push((carry % 10) as u8);
         carry /= 10;

@@ -1,5 +1,5 @@
 //! A FLOAT or DOUBLE as C's `printf` writes it.
-ghost use Rattle.std.specs.Prelude.{◌≡◌, ◌×◌, ◌≤◌, ◌<◌, ◌^◌, ◌++◌, false, if◌then◌else◌, take};
+ghost use Rattle.std.specs.Prelude.{◌≡◌, ◌≤◌, ◌<◌, ◌^◌, ◌++◌, false, if◌then◌else◌, take};
 ghost use Rattle.std.specs.Prelude.{from_bits};
 ghost use Rattle.std.specs.Float.{binary64};
 ghost use Rattle.ca_display.specs.Decimal.{exponent_text, scientific_text, fixed_text, size_text};
