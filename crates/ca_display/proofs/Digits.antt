@@ -1,10 +1,10 @@
 -- Decimal digits, the lowest first, and the number that they are.
-use Rattle.std.proofs.Common.{◌≡◌, ℕ, zero, suc, ◌+◌, ◌-◌, ◌*◌, ◌/◌, ◌%◌, ◌^◌, ◌≤◌, ◌<◌, ◌⊎◌, Bool, true, false, ◌&&◌, ◌==◌, List, [], ◌∷◌, ◌++◌, length, get_or, take, drop, refl, sym, ap, subst, ◌∙◌, arith, inl, inr, pow-suc, pow-add, add-one, length-append, length-take, div-add-mod', mul-le-mul_left, mul-le-mul_right, lt_of_not-le, eqb-true}
+use Rattle.std.proofs.Common.{◌≡◌, ℕ, zero, suc, ◌+◌, ◌-◌, ◌*◌, ◌/◌, ◌%◌, ◌^◌, ◌≤◌, ◌<◌, ◌⊎◌, Bool, true, false, ◌&&◌, ◌==◌, List, [], ◌∷◌, ◌++◌, length, get_or, take, drop, refl, sym, ap, subst, ◌∙◌, arith, inl, inr, pow-suc, pow-add, add-one, length-append, length-take, div-add-mod', mul-le-mul_left, mul-le-mul_right, lt_of_not-le, lt_of_le_of_lt, le_trans, lit<, eqb-true}
 use Rattle.std.proofs.lemmas.List.{take_more}
 use Rattle.std.specs.List.{list_all}
 use Rattle.std.specs.Int.Digits.{AllBelowBase}
 use borrow.Author.Tests.{eqb-false}
-use native.Mathlib.Nat.{one-le-pow, pow-le-pow_right}
+use native.Mathlib.Nat.{one-le-pow, pow-le-pow_left, pow-le-pow_right}
 use Rattle.ca_display.specs.Exact.{number_of, with_above, AreDigits}
 
 pub ten-pos : (k : ℕ) → 0 < 10 ^ k
@@ -103,3 +103,24 @@ power-step n b e s h =
 pub power-fits : (n b e s k : ℕ) → 0 < b → s ≤ e → n * b ^ e < k → n * b ^ s < k
 power-fits n b e s k some h l =
     omega (arith, power-step n b e s h, mul-le-mul_left (n * b ^ s) (one-le-pow (e - s) b some))
+
+-- ---- what a loop keeps
+pub own-digits : (ds : List ℕ) (n : ℕ) → AreDigits ds n → AreDigits ds (number_of ds)
+own-digits ds n are = subst (λ (m : ℕ). AreDigits ds m) (sym are.value) are
+
+pub no-digits : AreDigits [] 0
+no-digits = record { below = tt; value = refl; high = λ h. absurd (omega arith) }
+
+pub put-all : (ds : List ℕ) (n t : ℕ) → n ≤ 0 → AllBelowBase 10 ds → with_above ds n ≡ t → (0 < length ds → 10 ^ length ds ≤ 10 * t) → AreDigits ds t
+put-all ds n t none below same high =
+    let zero' : n ≡ 0 = omega arith in
+    record { below = below; value = omega (arith, same, ap (λ (z : ℕ). z * 10 ^ length ds) zero'); high = high }
+
+pub times-high : (ds xs : List ℕ) (n f t : ℕ) → AreDigits ds n → 0 < f → length xs ≡ length ds → t ≡ n * f → 0 < length xs → 10 ^ length xs ≤ 10 * t
+times-high ds xs n f t are some len is more =
+    let same : 10 ^ length xs ≡ 10 ^ length ds = ap (λ (k : ℕ). 10 ^ k) len in
+    omega (arith, are.high (omega arith), mul-le-mul_left n some)
+
+pub factor-less : (b s : ℕ) → b ≤ 5 → s ≤ 25 → b ^ s < 2 ^ 60
+factor-less b s h l =
+    lt_of_le_of_lt (le_trans (pow-le-pow_left {n = b} {m = 5} h s) (pow-le-pow_right {n = 5} (omega arith) {j = 25} l)) (lit< tt)

@@ -1,5 +1,5 @@
 -- The size of a DOUBLE, from its bit pattern to its decimal digits.
-use Rattle.std.proofs.Common.{◌≡◌, ℕ, zero, suc, ◌+◌, ◌-◌, ◌*◌, ◌/◌, ◌%◌, ◌^◌, ◌≤◌, ◌<◌, min, ℤ, pos, negsuc, Bool, true, false, cond, List, [], ◌∷◌, length, from_bits, is_nan, refl, sym, ap, ap₂, subst, ◌∙◌, arith, inl, inr, pow-suc, pow-add, mul-pos, mul-le-mul, mul-le-mul_left, mul-le-mul_right, lt_of_le_of_lt, lit<, ltb-false, eqb, leb, eq-zero-or-pos}
+use Rattle.std.proofs.Common.{◌≡◌, ℕ, zero, suc, ◌+◌, ◌-◌, ◌*◌, ◌/◌, ◌%◌, ◌^◌, ◌≤◌, ◌<◌, min, ℤ, pos, negsuc, Bool, true, false, cond, List, [], ◌∷◌, length, from_bits, is_nan, refl, sym, ap, ap₂, subst, ◌∙◌, arith, inl, inr, pow-suc, pow-add, mul-one, mul-le-mul, mul-le-mul_left, mul-le-mul_right, lt_of_le_of_lt, lit<, ltb-false, eqb, leb, eq-zero-or-pos}
 use Rattle.std.proofs.lemmas.Bool.{cases_lt}
 use Rattle.std.proofs.lemmas.Nat.{mul-pow}
 use Rattle.std.specs.Float.{Float, Format, binary32, binary64, nan, inf, fin, float_is_finite, float_is_infinite, float_with_sign}
@@ -60,22 +60,22 @@ pub size-fits : (q k : ℕ) → q ≤ 9007199254740992 → k ≤ 2046 → q * 2 
 size-fits q k h l =
     elim (cases_lt k 1074) [
       | inl less ↦
-          lt_of_le_of_lt
-          (mul-le-mul {n₁ = q * 2 ^ (k - 1074 + 18)} {n₂ = 9007199254740992 * 2 ^ 18}
-          (mul-le-mul {n₁ = q} h (pow-le-pow_right {n = 2} (omega arith) {j = 18} (omega arith)))
-          (pow-le-pow_right {n = 5} (omega arith) {j = 1092} (omega arith)))
-          (lit< tt)
+          let two : 2 ^ (k - 1074 + 18) ≤ 2 ^ 18 = pow-le-pow_right {n = 2} (omega arith) (omega arith) in
+          let five : 5 ^ (1074 - k + 18) ≤ 5 ^ 1092 = pow-le-pow_right {n = 5} (omega arith) (omega arith) in
+          let most : q * 2 ^ (k - 1074 + 18) * 5 ^ (1074 - k + 18) ≤ 9007199254740992 * 2 ^ 18 * 5 ^ 1092 = mul-le-mul (mul-le-mul h two) five in
+          lt_of_le_of_lt most (lit< tt)
       | inr more ↦
-          lt_of_le_of_lt
-          (mul-le-mul {n₁ = q * 2 ^ (k - 1074 + 18)} {n₂ = 9007199254740992 * 2 ^ 990}
-          (mul-le-mul {n₁ = q} h (pow-le-pow_right {n = 2} (omega arith) {j = 990} (omega arith)))
-          (pow-le-pow_right {n = 5} (omega arith) {j = 18} (omega arith)))
-          (lit< tt)
+          let two : 2 ^ (k - 1074 + 18) ≤ 2 ^ 990 = pow-le-pow_right {n = 2} (omega arith) (omega arith) in
+          let five : 5 ^ (1074 - k + 18) ≤ 5 ^ 18 = pow-le-pow_right {n = 5} (omega arith) (omega arith) in
+          let most : q * 2 ^ (k - 1074 + 18) * 5 ^ (1074 - k + 18) ≤ 9007199254740992 * 2 ^ 990 * 5 ^ 18 = mul-le-mul (mul-le-mul h two) five in
+          lt_of_le_of_lt most (lit< tt)
     ]
 
 pub first-fits : (q k : ℕ) → q ≤ 9007199254740992 → k ≤ 2046 → q * 2 ^ (k - 1074 + 18) < 10 ^ 785
 first-fits q k h l =
-    omega (arith, size-fits q k h l, mul-le-mul_left (q * 2 ^ (k - 1074 + 18)) (one-le-pow (1074 - k + 18) 5 (omega arith)))
+    let x = q * 2 ^ (k - 1074 + 18) in
+    let more : x * 1 ≤ x * 5 ^ (1074 - k + 18) = mul-le-mul_left x (one-le-pow (1074 - k + 18) 5 (omega arith)) in
+    lt_of_le_of_lt (subst (λ (z : ℕ). z ≤ x * 5 ^ (1074 - k + 18)) (mul-one x) more) (size-fits q k h l)
 
 pub size-count : (ds : List ℕ) (q a b : ℕ) → AreDigits ds (q * 2 ^ (a + 18) * 5 ^ (b + 18)) → 0 < length ds → 18 < length ds
 size-count ds q a b are some =

@@ -92,6 +92,7 @@ fn are_zeros(digits: &[u8]) -> bool
 }
 
 /// A number from 0 on.
+#[derive(Drop)]
 pub(crate) struct Exact {
     digits: Digits,
     /// How many of its digits are after the point.
