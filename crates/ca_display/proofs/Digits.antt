@@ -25,6 +25,10 @@ pub number-less : (ds : List ℕ) → AllBelowBase 10 ds → number_of ds < 10 ^
 number-less [] h = omega arith
 number-less (x ∷ xs) h = omega (arith, number-less xs h.1, h.0, pow-suc 10 (length xs))
 
+pub no-number : (ds : List ℕ) → length ds ≡ 0 → number_of ds ≡ 0
+no-number [] h = refl
+no-number (x ∷ xs) h = absurd (omega arith)
+
 pub below-take : (i : ℕ) (ds : List ℕ) → AllBelowBase 10 ds → AllBelowBase 10 (take i ds)
 below-take zero ds h = tt
 below-take (suc i) [] h = tt

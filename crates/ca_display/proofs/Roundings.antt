@@ -10,8 +10,8 @@ use native.Mathlib.Omega.{compare-lt, compare-eq, compare-gt}
 use lib.Ieee.{nearest}
 use lib.Ieee.Nearest.{closest, closest_same}
 use Rattle.ca_display.specs.Decimal.{padded_digits, point_text, fixed_text, digit_count, exponent_text, rounded_text, scientific_text}
-use Rattle.ca_display.specs.Exact.{number_of, AreDigits}
-use Rattle.ca_display.proofs.Digits.{ten-pos, ten-less, number-less, number-split, below-take}
+use Rattle.ca_display.specs.Exact.{number_of, AreDigits, CanRound}
+use Rattle.ca_display.proofs.Digits.{no-number, ten-pos, ten-less, number-less, number-split, below-take}
 
 -- ---- places more or fewer
 pub closest-shift : (n p q : ℕ) → p ≤ q → closest (n * 10 ^ p) (10 ^ q) ≡ closest n (10 ^ (q - p))
@@ -185,3 +185,36 @@ scientific-same p n m q s same =
     let e : c + q ≡ d + s = counts n m q s same in
     rounded-same p (closest (m * 10 ^ suc p) (10 ^ c)) c d s q e
     ∙ ap (λ (u : ℕ). rounded_text p u d q) (closest-same n m q s (suc p) c d same e)
+
+-- ---- rounded to one digit before the point
+pub scientific-is : (p n q u : ℕ) → p < digit_count n q → u ≡ closest n (10 ^ (digit_count n q - p - 1)) → scientific_text p n q ≡ rounded_text p u (digit_count n q) q
+scientific-is p n q u h is =
+    let c = digit_count n q in
+    ap (λ (v : ℕ). rounded_text p v c q) (closest-shift n (suc p) c h ∙ ap (λ (k : ℕ). closest n (10 ^ k)) (omega arith) ∙ sym is)
+
+pub rounded-up : (p u c q : ℕ) → u ≡ 10 ^ suc p → rounded_text p u c q ≡ point_text p (10 ^ p) ++ exponent_text (suc c) q
+rounded-up p u c q e =
+    ap (λ (b : Bool). cond b (point_text p (10 ^ p) ++ exponent_text (suc c) q) (point_text p u ++ exponent_text c q)) (eq-eqb u (10 ^ suc p) e)
+
+pub rounded-on : (p u c q : ℕ) → (u ≡ 10 ^ suc p → ⊥) → rounded_text p u c q ≡ point_text p u ++ exponent_text c q
+rounded-on p u c q e =
+    ap (λ (b : Bool). cond b (point_text p (10 ^ p) ++ exponent_text (suc c) q) (point_text p u ++ exponent_text c q)) (ne_eqb u (10 ^ suc p) e)
+
+-- ---- what may be rounded
+pub count-more : (ds : List ℕ) (q : ℕ) → CanRound ds q → 18 < digit_count (number_of ds) q
+count-more ds q can =
+    elim (eq-zero-or-pos (length ds)) [
+      | inl none ↦ omega (arith, can.places, count-none (number_of ds) q (no-number ds none))
+      | inr some ↦ omega (arith, can.count some, count-of-digits ds (number_of ds) q can.digits some)
+    ]
+
+pub count-fits : (ds : List ℕ) (q p : ℕ) → CanRound ds q → p ≤ 17 → number_of ds < 10 ^ (digit_count (number_of ds) q - p - 1 + 20)
+count-fits ds q p can few =
+    let c = digit_count (number_of ds) q in
+    elim (eq-zero-or-pos (length ds)) [
+      | inl none ↦ omega (arith, no-number ds none, ten-pos (c - p - 1 + 20))
+      | inr some ↦
+          let less : number_of ds < 10 ^ length ds = number-less ds can.digits.below in
+          let more : 10 ^ length ds ≤ 10 ^ (c - p - 1 + 20) = pow-le-pow_right {n = 10} (omega arith) (omega (arith, count-of-digits ds (number_of ds) q can.digits some)) in
+          lt_of_lt_of_le less more
+    ]

@@ -4,8 +4,7 @@ use Rattle.std.proofs.lemmas.Bool.{cases_lt}
 use Rattle.std.proofs.lemmas.Nat.{mul-pow}
 use Rattle.std.specs.Float.{Float, Format, binary32, binary64, nan, inf, fin, float_is_finite, float_is_infinite, float_with_sign}
 use native.Mathlib.Nat.{pow-le-pow_right, one-le-pow, eq_of_mul-eq-mul_right, le_of_mul-le-mul_right}
-use lib.Count.{count_trailing_zeros}
-use lib.Ieee.{up, down, odd, of_fields, of_bits, hid, ones, top, lt, of_int, round, units, size, span, climb}
+use lib.Ieee.{up, down, odd, of_fields, of_bits, hid, ones, top, lt, of_int}
 use lib.Ieee.Exact.{HasValue, odd_sign}
 use Rattle.ca_display.specs.Decimal.{exact_units, exact_places, size_text}
 use Rattle.ca_display.specs.Real.{whole_in, fixed_limit}
@@ -105,11 +104,11 @@ up-to-fits (fin s m z) n q p h u few l =
     omega (arith, pow-add 10 q 17, ten-pos q)
 
 whole-float : whole_in binary64 99999999 ≡ fin false 99999999 (pos 0)
-unfolding of_int round size span climb units odd count_trailing_zeros
+unfolding of_int
 whole-float = refl
 
 whole-double : whole_in binary64 10000000000000000 ≡ fin false 152587890625 (pos 16)
-unfolding of_int round size span climb units odd count_trailing_zeros
+unfolding of_int
 whole-double = refl
 
 limit-is : (n j l m : ℕ) (z : ℤ) → n * 2 ^ j ≤ l → lt (fin false n (pos j)) (fin false m z) ≡ false → m * up z ≤ l * down z

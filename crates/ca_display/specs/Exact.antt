@@ -23,6 +23,7 @@ pub record AreDigits (ds : List ℕ) (n : ℕ) : Type 0 where
 pub record CanRound (ds : List ℕ) (q : ℕ) : Type 0 where
   pub digits : AreDigits ds (number_of ds)
   pub places : 18 ≤ q
+  pub few : q ≤ 1092
   pub count : 0 < length ds → 18 < length ds
 
 -- n units of 10 ^ -q are the size of a finite number

@@ -103,7 +103,8 @@ impl Exact {
     /// How many digits it has from the first that is not 0 on; 0 counts as 1.
     pub(crate) fn digit_count(&self) -> usize
         requires { CanRound self.now.digits.items self.now.places }
-        ensures { result ≡ digit_count (number_of self.now.digits.items) self.now.places }
+        ensures count { result ≡ digit_count (number_of self.now.digits.items) self.now.places }
+        ensures few { result ≤ 1093 }
     {
         if self.digits.is_empty() {
             return self.places + 1;
@@ -138,13 +139,10 @@ pub(crate) fn exact_size(bits: u64) -> Exact
     ensures digits { CanRound result.digits.items result.places }
     ensures size { IsSize (from_bits binary64 bits) (number_of result.digits.items) result.places }
 {
+    // Without a field there is no hidden digit, and the exponent is that of a field of 1.
     let field = bits % SIGN / HIDDEN;
-    let fraction = bits % HIDDEN;
-    let (significand, exponent) = if field == 0 {
-        (fraction, 0)
-    } else {
-        (fraction + HIDDEN, field - 1)
-    };
+    let significand = bits % HIDDEN + HIDDEN * field.min(1);
+    let exponent = field.saturating_sub(1);
     let mut digits = ArrayVec::new();
     put_above(significand, &mut digits);
     let places = LOW.saturating_sub(exponent) + ROUNDED;
