@@ -127,34 +127,41 @@ impl Real for u32 {
     }
 }
 
-fn put_sign(is_minus: bool, text: &mut ArrayVec<u8, 40>)
-    ensures { text.new.items ≡ take 40 (text.old.items ++ minus_text is_minus) }
+// The beginning of a text.
+fn sign_text(is_minus: bool) -> ArrayVec<u8, 40>
+    ensures { result.items ≡ minus_text is_minus }
 {
-    let sign: &[u8] = if is_minus { b"-" } else { b"" };
-    put(sign, text);
+    let mut text = ArrayVec::new();
+    if is_minus {
+        text.push(b'-');
+    }
+    text
 }
 
-// Puts a number at the end of a text, as C's `printf` writes it.
-fn put_printed<R: Real>(bits: R, places: u16, text: &mut ArrayVec<u8, 40>)
-    ensures { text.new.items ≡ take 40 (text.old.items
-        ++ printed_text R.FORMAT places (minus_text (nat_le (top R.FORMAT) (R.pattern bits)))
+// A number as C's `printf` writes it.
+fn printed_text<R: Real>(bits: R, places: u16) -> ArrayVec<u8, 40>
+    ensures { result.items ≡ take 40
+        (printed_text R.FORMAT places (minus_text (nat_le (top R.FORMAT) (R.pattern bits)))
             (from_bits R.FORMAT (R.pattern bits))) }
 {
     let (limit, most, more) = R::limits();
     let double = bits.as_double();
     let size = f64_from_bits_with_nan(double).abs();
-    if places > MOST_PLACES || nearest_u64_to_f64(limit) < size {
-        let kept = places.min(most);
-        let mut number = ArrayVec::new();
-        put_sign(bits.is_minus(), &mut number);
-        put_size(double, kept, true, &mut number);
-        let width = usize::from(kept + more);
-        put(&SPACES[..width.saturating_sub(number.len())], text);
-        put(number.as_slice(), text);
-    } else {
-        put_sign(bits.is_minus(), text);
-        put_size(double, places.min(3), false, text);
+    let mut number = sign_text(bits.is_minus());
+    if places <= MOST_PLACES && !(nearest_u64_to_f64(limit) < size) {
+        put_size(double, places.min(3), false, &mut number);
+        return number;
     }
+    let kept = places.min(most);
+    put_size(double, kept, true, &mut number);
+    let width = usize::from(kept + more);
+    let mut text = ArrayVec::new();
+    put(
+        &SPACES[..width.saturating_sub(number.len())],
+        &mut text,
+    );
+    put(number.as_slice(), &mut text);
+    text
 }
 
 /// A FLOAT or DOUBLE as a text, with as many places as the precision.
@@ -162,18 +169,12 @@ pub(crate) fn real_text<R: Real>(bits: R, precision: i16) -> [u8; 40]
     ensures { result ≡ real_text R.FORMAT precision (R.pattern bits) }
 {
     let places = precision.cast_unsigned();
-    let near = if places > MOST_PLACES {
-        None
-    } else {
-        bits.units(power_of(places))
-    };
-    let mut text = ArrayVec::new();
-    match near {
-        Some((is_below, units)) => {
-            put_sign(is_below, &mut text);
+    if places <= MOST_PLACES {
+        if let Some((is_below, units)) = bits.units(power_of(places)) {
+            let mut text = sign_text(is_below);
             put_units(places, units, &mut text);
+            return field_of::<40>(text.as_slice());
         }
-        None => put_printed(bits, places, &mut text),
     }
-    field_of::<40>(text.as_slice())
+    field_of::<40>(printed_text(bits, places).as_slice())
 }
