@@ -1,7 +1,7 @@
 -- Texts of decimal numbers, put together and cut.
 use Rattle.std.proofs.Common.{◌≡◌, ℕ, zero, suc, ◌+◌, ◌-◌, ◌/◌, ◌%◌, ◌*◌, ◌^◌, ◌≤◌, ◌<◌, min, Bool, cond, List, [], ◌∷◌, ◌++◌, length, take, replicate, refl, sym, ap, subst, ◌∙◌, append_assoc, arith, inl, inr, take-take, length-take}
 use Rattle.std.proofs.lemmas.Bool.{ne_eqb}
-use Rattle.std.proofs.lemmas.List.{take_all, append-nil, take-replicate}
+use Rattle.std.proofs.lemmas.List.{take_all, append-nil}
 use Rattle.std.proofs.Math.Seq.{take-append-add}
 use Rattle.std.specs.Fmt.{decimal}
 use native.Mathlib.Nat.{eq-zero-or-pos, mul-le-mul}
@@ -59,15 +59,8 @@ cut-behind zero m xs ys h = refl
 cut-behind (suc n) m [] ys h = take-take (suc n) m ys h
 cut-behind (suc n) m (x ∷ xs) ys h = ap (λ (l : List ℕ). x ∷ l) (cut-behind n m xs ys (omega arith))
 
--- a text with spaces before it, of which there are fewer than it is cut to
-pub width-text : (o t u n b : List ℕ) (w k : ℕ) → w ≤ 24 → n ≡ take 40 b → k ≡ w - length n → t ≡ take 40 (o ++ take k (replicate 24 32)) → u ≡ take 40 (t ++ n) → u ≡ take 40 (o ++ in_width w b)
-width-text o t u n b w k few is-n is-k is-t is-u =
-    let r = take k (replicate 24 32) in
-    let size : length n ≡ min 40 (length b) = ap length is-n ∙ length-take 40 b in
-    let spaces : r ≡ replicate (w - length b) 32 = take-replicate k 24 32 (omega arith) ∙ ap (λ (z : ℕ). replicate z 32) (omega arith) in
-    cut_more o r n t u is-t is-u
-    ∙ ap (λ (x : List ℕ). take 40 (o ++ (r ++ x))) is-n
-    ∙ ap (λ (x : List ℕ). take 40 x) (sym (append_assoc o r (take 40 b)))
-    ∙ cut-behind 40 40 (o ++ r) b (omega arith)
-    ∙ ap (λ (x : List ℕ). take 40 x) (append_assoc o r b)
-    ∙ ap (λ (x : List ℕ). take 40 (o ++ (x ++ b))) spaces
+-- what is cut before it gets spaces in front, or only after
+pub width-cut : (w : ℕ) (b : List ℕ) → w ≤ 40 → take 40 (in_width w (take 40 b)) ≡ take 40 (in_width w b)
+width-cut w b few =
+    let size : w - length (take 40 b) ≡ w - length b = omega (arith, length-take 40 b) in
+    ap (λ (k : ℕ). take 40 (replicate k 32 ++ take 40 b)) size ∙ cut-behind 40 40 (replicate (w - length b) 32) b (omega arith)

@@ -1,9 +1,10 @@
 //! A FLOAT or DOUBLE as a text, by the precision of its record.
-ghost use Rattle.std.specs.Prelude.{◌≡◌, ℕ, ◌≤◌, ◌++◌, take, nat_le, from_bits};
+ghost use Rattle.std.specs.Prelude.{◌≡◌, ℕ, ◌≤◌, take, nat_le, from_bits};
 ghost use Rattle.std.specs.Float.{Format, binary32, binary64};
 ghost use Rattle.std.specs.Float.Ieee.{top};
 ghost use Rattle.ca_display.specs.Real.{signed_units, units_of, fixed_limit, most_places};
 ghost use Rattle.ca_display.specs.Real.{more_bytes, minus_text, printed_text, real_text};
+ghost use Rattle.ca_display.specs.Decimal.{in_width};
 
 use crate::decimal::{power_of, put, put_units};
 use crate::display::field_of;
@@ -138,6 +139,16 @@ fn sign_text(is_minus: bool) -> ArrayVec<u8, 40>
     text
 }
 
+fn in_width(width: usize, text: &[u8]) -> ArrayVec<u8, 40>
+    requires { width ≤ 24 }
+    ensures { result.items ≡ take 40 (in_width width text.now) }
+{
+    let mut wide = ArrayVec::new();
+    put(&SPACES[..width.saturating_sub(text.len())], &mut wide);
+    put(text, &mut wide);
+    wide
+}
+
 // A number as C's `printf` writes it.
 fn printed_text<R: Real>(bits: R, places: u16) -> ArrayVec<u8, 40>
     ensures { result.items ≡ take 40
@@ -146,21 +157,14 @@ fn printed_text<R: Real>(bits: R, places: u16) -> ArrayVec<u8, 40>
 {
     let (limit, most, more) = R::limits();
     let double = bits.as_double();
+    let mut text = sign_text(bits.is_minus());
     let size = f64_from_bits_with_nan(double).abs();
-    let mut number = sign_text(bits.is_minus());
-    if places <= MOST_PLACES && !(nearest_u64_to_f64(limit) < size) {
-        put_size(double, places.min(3), false, &mut number);
-        return number;
+    if places > MOST_PLACES || nearest_u64_to_f64(limit) < size {
+        let kept = places.min(most);
+        put_size(double, kept, true, &mut text);
+        return in_width(usize::from(kept + more), text.as_slice());
     }
-    let kept = places.min(most);
-    put_size(double, kept, true, &mut number);
-    let width = usize::from(kept + more);
-    let mut text = ArrayVec::new();
-    put(
-        &SPACES[..width.saturating_sub(number.len())],
-        &mut text,
-    );
-    put(number.as_slice(), &mut text);
+    put_size(double, places.min(3), false, &mut text);
     text
 }
 
