@@ -128,3 +128,6 @@ times-high ds xs n f t are some len is more =
 pub factor-less : (b s : ℕ) → b ≤ 5 → s ≤ 25 → b ^ s < 2 ^ 60
 factor-less b s h l =
     lt_of_le_of_lt (le_trans (pow-le-pow_left {n = b} {m = 5} h s) (pow-le-pow_right {n = 5} (omega arith) {j = 25} l)) (lit< tt)
+
+pub start-value : (ds es : List ℕ) (n : ℕ) → es ≡ [] → AreDigits ds (with_above es n) → number_of ds ≡ n
+start-value ds es n e are = are.value ∙ ap (λ (xs : List ℕ). with_above xs n) e ∙ omega arith

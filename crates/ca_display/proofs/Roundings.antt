@@ -40,14 +40,14 @@ near b r l q n small below half over above =
             | inr some ↦ order-is q x (b * 10) n (λ h. absurd (omega arith)) (λ h. absurd (omega arith)) (λ h. over five some)
           ]
       | inr other ↦ elim other [
-          | inl less ↦
-              let four : l ≤ 4 = omega arith in
-              let m : b * l ≤ b * 4 = mul-le-mul_left b four in
-              order-is q x (b * 10) n (λ h. below less) (λ h. absurd (omega arith)) (λ h. absurd (omega arith))
-          | inr more ↦
-              let m : b * 6 ≤ b * l = mul-le-mul_left b more in
-              order-is q x (b * 10) n (λ h. absurd (omega arith)) (λ h. absurd (omega arith)) (λ h. above more)
-        ]
+        | inl less ↦
+            let four : l ≤ 4 = omega arith in
+            let m : b * l ≤ b * 4 = mul-le-mul_left b four in
+            order-is q x (b * 10) n (λ h. below less) (λ h. absurd (omega arith)) (λ h. absurd (omega arith))
+        | inr more ↦
+            let m : b * 6 ≤ b * l = mul-le-mul_left b more in
+            order-is q x (b * 10) n (λ h. absurd (omega arith)) (λ h. absurd (omega arith)) (λ h. above more)
+      ]
     ]
 
 -- a number's head h and rest r, of which the head's last digit is cut off
@@ -158,14 +158,14 @@ counts n m q s same =
           let nothing : m ≡ 0 = eq_of_mul-eq-mul_right (10 ^ q) (ten-pos q) m 0 (omega (arith, ap (λ (z : ℕ). z * 10 ^ s) none)) in
           omega (arith, count-none n q none, count-none m s nothing)
       | inr some ↦ elim (eq-zero-or-pos m) [
-          | inl nothing ↦ absurd (omega (arith, mul-pos some (ten-pos s), ap (λ (z : ℕ). z * 10 ^ q) nothing))
-          | inr more ↦
-              let a = length (digits_of 10 n) in
-              let b = length (digits_of 10 m) in
-              let up : a + s ≤ b + q = order-le n m a b q s (digits-high n some) (digits-below m) same in
-              let down : b + q ≤ a + s = order-le m n b a s q (digits-high m more) (digits-below n) (sym same) in
-              omega (arith, count-some n q some, count-some m s more)
-        ]
+        | inl nothing ↦ absurd (omega (arith, mul-pos some (ten-pos s), ap (λ (z : ℕ). z * 10 ^ q) nothing))
+        | inr more ↦
+            let a = length (digits_of 10 n) in
+            let b = length (digits_of 10 m) in
+            let up : a + s ≤ b + q = order-le n m a b q s (digits-high n some) (digits-below m) same in
+            let down : b + q ≤ a + s = order-le m n b a s q (digits-high m more) (digits-below n) (sym same) in
+            omega (arith, count-some n q some, count-some m s more)
+      ]
     ]
 
 closest-same : (n m q s p c d : ℕ) → n * 10 ^ s ≡ m * 10 ^ q → c + q ≡ d + s → closest (m * 10 ^ p) (10 ^ c) ≡ closest (n * 10 ^ p) (10 ^ d)

@@ -1,5 +1,5 @@
 -- The size of a DOUBLE, from its bit pattern to its decimal digits.
-use Rattle.std.proofs.Common.{◌≡◌, ℕ, zero, suc, ◌+◌, ◌-◌, ◌*◌, ◌/◌, ◌%◌, ◌^◌, ◌≤◌, ◌<◌, min, ℤ, pos, negsuc, Bool, true, false, cond, List, [], ◌∷◌, length, from_bits, is_nan, refl, sym, ap, ap₂, subst, ◌∙◌, arith, inl, inr, pow-suc, pow-add, mul-one, mul-le-mul, mul-le-mul_left, mul-le-mul_right, lt_of_le_of_lt, lit<, ltb-false, eqb, leb, eq-zero-or-pos}
+use Rattle.std.proofs.Common.{◌≡◌, ℕ, zero, suc, ◌+◌, ◌-◌, ◌*◌, ◌/◌, ◌%◌, ◌^◌, ◌≤◌, ◌<◌, min, ℤ, pos, negsuc, Bool, true, false, cond, List, [], ◌∷◌, length, from_bits, is_nan, refl, sym, ap, ap₂, subst, subst₂, ◌∙◌, arith, inl, inr, pow-suc, pow-add, mul-one, mul-le-mul, mul-le-mul_left, mul-le-mul_right, lt_of_le_of_lt, lit<, ltb-false, eqb, leb, eq-zero-or-pos}
 use Rattle.std.proofs.lemmas.Bool.{cases_lt}
 use Rattle.std.proofs.lemmas.Nat.{mul-pow}
 use Rattle.std.specs.Float.{Float, Format, binary32, binary64, nan, inf, fin, float_is_finite, float_is_infinite, float_with_sign}
@@ -19,8 +19,10 @@ fields s (suc x) t h = go (eqb (suc x) 2047) (eqb t 0) h
   where
     one : 1 ≡ min (suc x) 1
     one = omega arith
+
     same : (4503599627370496 + t) * 2 ^ x ≡ (t + 4503599627370496 * min (suc x) 1) * 2 ^ (suc x - 1)
     same = ap (λ (z : ℕ). z * 2 ^ x) (omega arith) ∙ ap₂ (λ (a e : ℕ). (t + 4503599627370496 * a) * 2 ^ e) one (omega arith)
+
     go : (b c : Bool) → float_is_finite (cond b (cond c (inf s) nan) (odd 53 s (4503599627370496 + t) x 1074)) ≡ true → HasValue (cond b (cond c (inf s) nan) (odd 53 s (4503599627370496 + t) x 1074)) s ((t + 4503599627370496 * min (suc x) 1) * 2 ^ (suc x - 1)) (2 ^ 1074)
     go true true h = cc
     go true false h = cc
@@ -45,14 +47,14 @@ value-size (fin t m (negsuc j)) s q k a b l n h e is =
     let two : m * 2 ^ b ≡ q * 2 ^ suc j * 2 ^ a = halves m (q * 2 ^ suc j) k a b l (omega (arith, h.1)) e in
     omega (arith, ap (λ (z : ℕ). z * 10 ^ suc j) is, ap (λ (z : ℕ). q * 2 ^ a * 5 ^ b * z) (ten-parts (suc j)), ap (λ (z : ℕ). m * 5 ^ suc j * z) (ten-parts b), ap (λ (z : ℕ). z * (5 ^ b * 5 ^ suc j)) two)
 
-pub pattern-size : (bits q k n : ℕ) → float_is_finite (from_bits binary64 bits) ≡ true → q ≡ bits % 4503599627370496 + 4503599627370496 * min (bits % 9223372036854775808 / 4503599627370496) 1 → k ≡ bits % 9223372036854775808 / 4503599627370496 - 1 → n ≡ q * 2 ^ (k - 1074 + 18) * 5 ^ (1074 - k + 18) → IsSize (from_bits binary64 bits) n (1074 - k + 18)
+pub pattern-size : (bits q k s t n : ℕ) → float_is_finite (from_bits binary64 bits) ≡ true → q ≡ bits % 4503599627370496 + 4503599627370496 * min (bits % 9223372036854775808 / 4503599627370496) 1 → k ≡ bits % 9223372036854775808 / 4503599627370496 - 1 → s ≡ k - 1074 → t ≡ 1074 - k → n ≡ q * 2 ^ (s + 18) * 5 ^ (t + 18) → IsSize (from_bits binary64 bits) n (t + 18)
 unfolding of_bits
-pattern-size bits q k n finite q-is k-is is =
-    let s = leb (top binary64) bits in
+pattern-size bits q k s t n finite q-is k-is s-is t-is is =
+    let sign = leb (top binary64) bits in
     let x = bits % 9223372036854775808 / 4503599627370496 in
-    let h : HasValue (of_fields binary64 s x (bits % 4503599627370496)) s (q * 2 ^ k) (2 ^ 1074) =
-    subst (λ (a : ℕ). HasValue (of_fields binary64 s x (bits % 4503599627370496)) s a (2 ^ 1074)) (sym (ap₂ (λ (a e : ℕ). a * 2 ^ e) q-is k-is)) (fields s x (bits % 4503599627370496) finite) in
-    value-size (of_fields binary64 s x (bits % 4503599627370496)) s q k (k - 1074 + 18) (1074 - k + 18) 1074 n h (omega arith) is
+    let h : HasValue (of_fields binary64 sign x (bits % 4503599627370496)) sign (q * 2 ^ k) (2 ^ 1074) =
+    subst (λ (a : ℕ). HasValue (of_fields binary64 sign x (bits % 4503599627370496)) sign a (2 ^ 1074)) (sym (ap₂ (λ (a e : ℕ). a * 2 ^ e) q-is k-is)) (fields sign x (bits % 4503599627370496) finite) in
+    value-size (of_fields binary64 sign x (bits % 4503599627370496)) sign q k (s + 18) (t + 18) 1074 n h (omega arith) is
 
 -- ---- how large it may be, and how small
 pub size-fits : (q k : ℕ) → q ≤ 9007199254740992 → k ≤ 2046 → q * 2 ^ (k - 1074 + 18) * 5 ^ (1074 - k + 18) < 10 ^ 785
@@ -75,6 +77,14 @@ first-fits q k h l =
     let x = q * 2 ^ (k - 1074 + 18) in
     let more : x * 1 ≤ x * 5 ^ (1074 - k + 18) = mul-le-mul_left x (one-le-pow (1074 - k + 18) 5 (omega arith)) in
     lt_of_le_of_lt (subst (λ (z : ℕ). z ≤ x * 5 ^ (1074 - k + 18)) (mul-one x) more) (size-fits q k h l)
+
+pub first-room : (n q k s : ℕ) → n ≡ q → s ≡ k - 1074 → q ≤ 9007199254740992 → k ≤ 2046 → n * 2 ^ (s + 18) < 10 ^ 785
+first-room n q k s e f h l = subst₂ (λ (a b : ℕ). a * 2 ^ (b + 18) < 10 ^ 785) (sym e) (sym f) (first-fits q k h l)
+
+pub second-room : (m n q k s t : ℕ) → m ≡ n * 2 ^ (s + 18) → n ≡ q → s ≡ k - 1074 → t ≡ 1074 - k → q ≤ 9007199254740992 → k ≤ 2046 → m * 5 ^ (t + 18) < 10 ^ 785
+second-room m n q k s t is e f g h l =
+    let mid : m ≡ q * 2 ^ (k - 1074 + 18) = is ∙ ap₂ (λ (a b : ℕ). a * 2 ^ (b + 18)) e f in
+    subst₂ (λ (a b : ℕ). a * 5 ^ (b + 18) < 10 ^ 785) (sym mid) (sym g) (size-fits q k h l)
 
 pub size-count : (ds : List ℕ) (q a b : ℕ) → AreDigits ds (q * 2 ^ (a + 18) * 5 ^ (b + 18)) → 0 < length ds → 18 < length ds
 size-count ds q a b are some =

@@ -4,7 +4,7 @@ ghost use Rattle.std.specs.List.{list_all};
 ghost use Rattle.std.specs.Int.Digits.{AllBelowBase};
 ghost use Rattle.std.specs.Float.{binary64, float_is_finite};
 ghost use Rattle.std.specs.Float.Ieee.Nearest.{closest};
-ghost use Rattle.ca_display.specs.Printf.{digit_count};
+ghost use Rattle.ca_display.specs.Decimal.{digit_count};
 ghost use Rattle.ca_display.specs.Exact.{number_of, with_above, AreDigits, CanRound, IsSize};
 
 use arrayvec::ArrayVec;

@@ -50,7 +50,7 @@ pub(crate) fn put_size(bits: u64, places: u16, has_exponent: bool, text: &mut Ar
         (places ≤ 3) × IsUpTo 10000000000000000 (from_bits binary64 bits) }
     ensures { text.new.items ≡ take 40 (text.old.items
         ++ size_text (if has_exponent then scientific_text places else fixed_text places)
-            (from_bits binary64 bits)) }
+        (from_bits binary64 bits)) }
 {
     let x = f64_from_bits_with_nan(bits);
     if x.is_nan() {
@@ -62,7 +62,11 @@ pub(crate) fn put_size(bits: u64, places: u16, has_exponent: bool, text: &mut Ar
         if has_exponent {
             put_scientific(places, &exact, text);
         } else {
-            put_units(places, exact.round_off(exact.places - usize::from(places)), text);
+            put_units(
+                places,
+                exact.round_off(exact.places - usize::from(places)),
+                text,
+            );
         }
     }
 }

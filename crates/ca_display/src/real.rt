@@ -153,7 +153,7 @@ fn in_width(width: usize, text: &[u8]) -> ArrayVec<u8, 40>
 fn printed_text<R: Real>(bits: R, places: u16) -> ArrayVec<u8, 40>
     ensures { result.items ≡ take 40
         (printed_text R.FORMAT places (minus_text (nat_le (top R.FORMAT) (R.pattern bits)))
-            (from_bits R.FORMAT (R.pattern bits))) }
+        (from_bits R.FORMAT (R.pattern bits))) }
 {
     let (limit, most, more) = R::limits();
     let double = bits.as_double();

@@ -1,4 +1,4 @@
-use Rattle.std.proofs.Common.{ℕ, List, ◌≡◌, ◌/◌, ◌^◌, ◌++◌, take, ap, ◌∙◌, rules}
+use Rattle.std.proofs.Common.{ℕ, List, ◌≡◌, ◌/◌, ◌^◌, ◌++◌, take, ap, ◌∙◌, rules, arith}
 use Rattle.std.specs.Fmt.{decimal}
 use Rattle.ca_display.proofs.Decimals.{point_some}
 use Rattle.ca_display.proofs.decimal.put_units.Goals as goal
