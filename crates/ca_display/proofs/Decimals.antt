@@ -1,11 +1,14 @@
 -- Texts of decimal numbers, put together and cut.
-use Rattle.std.proofs.Common.{◌≡◌, ℕ, zero, suc, ◌+◌, ◌-◌, ◌/◌, ◌%◌, ◌*◌, ◌^◌, ◌≤◌, ◌<◌, min, Bool, cond, List, [], ◌∷◌, ◌++◌, length, take, replicate, refl, sym, ap, subst, ◌∙◌, append_assoc, arith, inl, inr, take-take, length-take}
+use Rattle.std.proofs.Common.{◌≡◌, ℕ, zero, suc, ◌+◌, ◌-◌, ◌/◌, ◌%◌, ◌*◌, ◌^◌, ◌≤◌, ◌<◌, min, Bool, true, false, cond, ◌||◌, ◌⊎◌, ltb, lt-ltb, List, [], ◌∷◌, ◌++◌, length, take, replicate, refl, sym, ap, subst, ◌∙◌, append_assoc, arith, inl, inr, take-take, length-take}
 use Rattle.std.proofs.lemmas.Bool.{ne_eqb}
 use Rattle.std.proofs.lemmas.List.{take_all, append-nil}
 use Rattle.std.proofs.Math.Seq.{take-append-add}
 use Rattle.std.specs.Fmt.{decimal}
 use native.Mathlib.Nat.{eq-zero-or-pos, mul-le-mul}
-use Rattle.ca_display.specs.Decimal.{padded_digits, point_text, in_width}
+use Rattle.std.specs.Float.{Float, Format, binary32, binary64, float_with_sign}
+use lib.Ieee.{lt}
+use Rattle.ca_display.specs.Decimal.{padded_digits, point_text, in_width, size_text, fixed_text, scientific_text}
+use Rattle.ca_display.specs.Real.{whole_in, fixed_limit, most_places, more_bytes, printed_text}
 
 pub units_fit : (whole power : ℕ) → whole < 2 ^ 64 → power ≤ 100000000 → whole * power ≤ 18446744073709551616 * 100000000
 units_fit whole power small few = mul-le-mul {n₁ = whole} {m₁ = power} {n₂ = 18446744073709551616} {m₂ = 100000000} (omega (arith, small)) few
@@ -64,3 +67,23 @@ pub width-cut : (w : ℕ) (b : List ℕ) → w ≤ 40 → take 40 (in_width w (t
 width-cut w b few =
     let size : w - length (take 40 b) ≡ w - length b = omega (arith, length-take 40 b) in
     ap (λ (k : ℕ). take 40 (replicate k 32 ++ take 40 b)) size ∙ cut-behind 40 40 (replicate (w - length b) 32) b (omega arith)
+
+most-width : (f : Format) → most_places f + more_bytes f ≤ 24
+most-width binary32 = omega arith
+most-width binary64 = omega arith
+
+pub far-text : (f : Format) (p w : ℕ) (sign n r : List ℕ) (x : Float) → (8 < p) ⊎ (lt (whole_in binary64 (fixed_limit f)) (float_with_sign false x) ≡ true) → w ≡ min p (most_places f) + more_bytes f → n ≡ take 40 (sign ++ size_text (scientific_text (min p (most_places f))) x) → r ≡ take 40 (in_width w n) → r ≡ take 40 (printed_text f p sign x)
+far-text f p w sign n r x far is-w is-n is =
+    let most = min p (most_places f) in
+    let test = lt (whole_in binary64 (fixed_limit f)) (float_with_sign false x) in
+    let b = sign ++ size_text (scientific_text most) x in
+    let yes : (ltb 8 p || test) ≡ true = elim far [ inl h ↦ ap (λ (z : Bool). z || test) (lt-ltb 8 p h) | inr h ↦ ap (λ (z : Bool). ltb 8 p || z) h ∙ or-true (ltb 8 p) ] in
+    is
+    ∙ ap (λ (z : List ℕ). take 40 (in_width w z)) is-n
+    ∙ width-cut w b (omega (arith, most-width f))
+    ∙ ap (λ (z : ℕ). take 40 (in_width z b)) is-w
+    ∙ sym (ap (λ (z : Bool). take 40 (cond z (in_width (most + more_bytes f) b) (sign ++ size_text (fixed_text (min p 3)) x))) yes)
+  where
+    or-true : (z : Bool) → (z || true) ≡ true
+    or-true true = refl
+    or-true false = refl

@@ -1,5 +1,5 @@
 -- Decimals rounded off: the same number as other units, and digits cut off.
-use Rattle.std.proofs.Common.{◌≡◌, ℕ, zero, suc, ◌+◌, ◌-◌, ◌*◌, ◌/◌, ◌%◌, ◌^◌, ◌≤◌, ◌<◌, min, Bool, cond, ◌==◌, List, [], ◌∷◌, ◌++◌, length, take, drop, refl, sym, ap, ap₂, subst, ◌∙◌, arith, inl, inr, pow-suc, pow-add, mul-pos, mul-le-mul_left, mul-le-mul_right, mul-lt-mul_of_pos_right, length-take, drop_of_length-le, div-add-mod', lt_of_lt_of_le, lt_of_not-le, ne_eqb, eq-eqb, lt-ltb, le-ltb, eq-zero-or-pos}
+use Rattle.std.proofs.Common.{◌≡◌, ℕ, zero, suc, ◌+◌, ◌-◌, ◌*◌, ◌/◌, ◌%◌, ◌^◌, ◌≤◌, ◌<◌, min, Bool, cond, ◌==◌, List, [], ◌∷◌, ◌++◌, length, take, drop, refl, sym, ap, ap₂, subst, ◌∙◌, arith, inl, inr, pow-suc, pow-add, mul-pos, mul-le-mul_left, mul-le-mul_right, mul-lt-mul_of_pos_right, length-take, drop_of_length-le, div-add-mod', lt_of_lt_of_le, lt_trans, lit<, lt_of_not-le, ne_eqb, eq-eqb, lt-ltb, le-ltb, eq-zero-or-pos}
 use Rattle.std.proofs.lemmas.Bool.{cases_lt, cases_order}
 use Rattle.std.proofs.lemmas.Nat.{div-mul-add, mod-mul-add}
 use Rattle.std.proofs.lemmas.Int.Digits.{number_digits_of, number_lt, all_below_base_digits_of, length-digits_of-le}
@@ -85,6 +85,26 @@ rest-split ds k =
 pub head-less : (d r b h k : ℕ) → d ≡ r + b * h → d < b * k → h < k
 head-less d r b h k is l =
     lt_of_not-le (λ (m : k ≤ h). let n : b * k ≤ b * h = mul-le-mul_left b m in omega arith)
+
+pub head-fits : (xs ds head : List ℕ) (d i : ℕ) → xs ≡ ds → 0 < d → i ≡ min (length xs) (d - 1) → head ≡ drop i xs → number_of ds < 10 ^ (d + 20) → number_of head < 2 ^ 128
+head-fits xs ds head d i e some is-i is-head h =
+    let b = 10 ^ (d - 1) in
+    let same : drop i xs ≡ drop (min (length ds) (d - 1)) ds = ap₂ (λ (k : ℕ) (l : List ℕ). drop k l) (is-i ∙ ap (λ (l : List ℕ). min (length l) (d - 1)) e) e in
+    let power : 10 ^ (d + 20) ≡ b * 10 ^ 21 = ap (λ (k : ℕ). 10 ^ k) (omega arith) ∙ pow-add 10 (d - 1) 21 in
+    let less : number_of (drop (min (length ds) (d - 1)) ds) < 10 ^ 21 = head-less (number_of ds) (number_of (take (min (length ds) (d - 1)) ds)) b (number_of (drop (min (length ds) (d - 1)) ds)) (10 ^ 21) (rest-split ds (d - 1)) (subst (λ (z : ℕ). number_of ds < z) power h) in
+    lt_trans (subst (λ (l : List ℕ). number_of l < 10 ^ 21) (sym (is-head ∙ same)) less) (lit< tt)
+
+pub digits-off : (xs ds rest head : List ℕ) (d i h n : ℕ) → xs ≡ ds → AllBelowBase 10 ds → 0 < d → i ≡ min (length xs) (d - 1) → rest ≡ take i xs → head ≡ drop i xs → h ≡ number_of head → (h % 10 < 5 → n ≡ h / 10) → (h % 10 ≡ 5 → number_of rest ≡ 0 → n ≡ h / 10 + h / 10 % 2) → (h % 10 ≡ 5 → 0 < number_of rest → n ≡ suc (h / 10)) → (5 < h % 10 → n ≡ suc (h / 10)) → n ≡ closest (number_of ds) (10 ^ d)
+digits-off xs ds rest head d i h n e below some is-i is-rest is-head is-h low half over high =
+    let k = min (length ds) (d - 1) in
+    let b = 10 ^ (d - 1) in
+    let place : i ≡ k = is-i ∙ ap (λ (l : List ℕ). min (length l) (d - 1)) e in
+    let rests : rest ≡ take k ds = is-rest ∙ ap₂ (λ (j : ℕ) (l : List ℕ). take j l) place e in
+    let heads : h ≡ number_of (drop k ds) = is-h ∙ ap number_of (is-head ∙ ap₂ (λ (j : ℕ) (l : List ℕ). drop j l) place e) in
+    let parts : number_of rest + b * h ≡ number_of ds = ap₂ (λ (x y : ℕ). x + b * y) (ap number_of rests) heads ∙ sym (rest-split ds (d - 1)) in
+    let power : b * 10 ≡ 10 ^ d = sym (pow-suc 10 (d - 1)) ∙ ap (λ (j : ℕ). 10 ^ j) (omega arith) in
+    let small : number_of rest < b = subst (λ (l : List ℕ). number_of l < b) (sym rests) (rest-less ds (d - 1) below) in
+    cut-off b (number_of rest) h n small low half over high ∙ ap₂ (λ (x y : ℕ). closest x y) parts power
 
 -- ---- how many digits a number has
 pub digits-below : (n : ℕ) → n < 10 ^ length (digits_of 10 n)

@@ -1,10 +1,10 @@
 -- The size of a DOUBLE, from its bit pattern to its decimal digits.
-use Rattle.std.proofs.Common.{◌≡◌, ℕ, zero, suc, ◌+◌, ◌-◌, ◌*◌, ◌/◌, ◌%◌, ◌^◌, ◌≤◌, ◌<◌, min, ℤ, pos, negsuc, Bool, true, false, cond, List, [], ◌∷◌, length, from_bits, is_nan, refl, sym, ap, ap₂, subst, subst₂, ◌∙◌, arith, inl, inr, pow-suc, pow-add, mul-one, mul-le-mul, mul-le-mul_left, mul-le-mul_right, lt_of_le_of_lt, lit<, ltb-false, eqb, leb, eq-zero-or-pos}
+use Rattle.std.proofs.Common.{◌≡◌, ℕ, zero, suc, ◌+◌, ◌-◌, ◌*◌, ◌/◌, ◌%◌, ◌^◌, ◌≤◌, ◌<◌, min, ℤ, pos, negsuc, Bool, true, false, cond, List, [], ◌∷◌, length, from_bits, refl, sym, ap, ap₂, subst, subst₂, ◌∙◌, arith, inl, inr, pow-suc, pow-add, mul-one, mul-le-mul, mul-le-mul_left, mul-le-mul_right, lt_of_le_of_lt, lit<, ltb-false, eqb, leb, eq-zero-or-pos}
 use Rattle.std.proofs.lemmas.Bool.{cases_lt}
 use Rattle.std.proofs.lemmas.Nat.{mul-pow}
 use Rattle.std.specs.Float.{Float, Format, binary32, binary64, nan, inf, fin, float_is_finite, float_is_infinite, float_with_sign}
 use native.Mathlib.Nat.{pow-le-pow_right, one-le-pow, eq_of_mul-eq-mul_right, le_of_mul-le-mul_right}
-use lib.Ieee.{up, down, odd, of_fields, of_bits, hid, ones, top, lt, of_int}
+use lib.Ieee.{is_nan, up, down, odd, of_fields, of_bits, hid, ones, top, lt, of_int}
 use lib.Ieee.Exact.{HasValue, odd_sign}
 use Rattle.ca_display.specs.Decimal.{exact_units, exact_places, size_text}
 use Rattle.ca_display.specs.Real.{whole_in, fixed_limit}
@@ -61,13 +61,13 @@ pub size-fits : (q k : ℕ) → q ≤ 9007199254740992 → k ≤ 2046 → q * 2 
 size-fits q k h l =
     elim (cases_lt k 1074) [
       | inl less ↦
-          let two : 2 ^ (k - 1074 + 18) ≤ 2 ^ 18 = pow-le-pow_right {n = 2} (omega arith) (omega arith) in
-          let five : 5 ^ (1074 - k + 18) ≤ 5 ^ 1092 = pow-le-pow_right {n = 5} (omega arith) (omega arith) in
+          let two : 2 ^ (k - 1074 + 18) ≤ 2 ^ 18 = pow-le-pow_right {n = 2} (omega arith) {i = k - 1074 + 18} {j = 18} (omega arith) in
+          let five : 5 ^ (1074 - k + 18) ≤ 5 ^ 1092 = pow-le-pow_right {n = 5} (omega arith) {i = 1074 - k + 18} {j = 1092} (omega arith) in
           let most : q * 2 ^ (k - 1074 + 18) * 5 ^ (1074 - k + 18) ≤ 9007199254740992 * 2 ^ 18 * 5 ^ 1092 = mul-le-mul (mul-le-mul h two) five in
           lt_of_le_of_lt most (lit< tt)
       | inr more ↦
-          let two : 2 ^ (k - 1074 + 18) ≤ 2 ^ 990 = pow-le-pow_right {n = 2} (omega arith) (omega arith) in
-          let five : 5 ^ (1074 - k + 18) ≤ 5 ^ 18 = pow-le-pow_right {n = 5} (omega arith) (omega arith) in
+          let two : 2 ^ (k - 1074 + 18) ≤ 2 ^ 990 = pow-le-pow_right {n = 2} (omega arith) {i = k - 1074 + 18} {j = 990} (omega arith) in
+          let five : 5 ^ (1074 - k + 18) ≤ 5 ^ 18 = pow-le-pow_right {n = 5} (omega arith) {i = 1074 - k + 18} {j = 18} (omega arith) in
           let most : q * 2 ^ (k - 1074 + 18) * 5 ^ (1074 - k + 18) ≤ 9007199254740992 * 2 ^ 990 * 5 ^ 18 = mul-le-mul (mul-le-mul h two) five in
           lt_of_le_of_lt most (lit< tt)
     ]
@@ -91,7 +91,7 @@ size-count ds q a b are some =
     elim (eq-zero-or-pos q) [
       | inl none ↦ absurd (omega (arith, are.high some, ten-pos (length ds), ap (λ (z : ℕ). z * 2 ^ (a + 18) * 5 ^ (b + 18)) none))
       | inr more ↦
-          let low : 1 * 2 ^ 18 * 5 ^ 18 ≤ q * 2 ^ (a + 18) * 5 ^ (b + 18) = mul-le-mul (mul-le-mul more (pow-le-pow_right {n = 2} (omega arith) (omega arith))) (pow-le-pow_right {n = 5} (omega arith) (omega arith)) in
+          let low : 1 * 2 ^ 18 * 5 ^ 18 ≤ q * 2 ^ (a + 18) * 5 ^ (b + 18) = mul-le-mul (mul-le-mul more (pow-le-pow_right {n = 2} (omega arith) {i = 18} {j = a + 18} (omega arith))) (pow-le-pow_right {n = 5} (omega arith) {i = 18} {j = b + 18} (omega arith)) in
           let least : 10 ^ 18 ≤ number_of ds = omega (arith, low, are.value) in
           ten-less 18 (length ds) (omega (arith, number-less ds are.below))
     ]
@@ -110,7 +110,7 @@ up-to-fits (fin s m z) n q p h u few l =
     let units : exact_units m z ≤ 10000000000000000 * w = units-up-to m 10000000000000000 z u in
     let scaled : n * w ≤ 10000000000000000 * 10 ^ q * w = omega (arith, h, mul-le-mul_right (10 ^ q) units) in
     let most : n ≤ 10000000000000000 * 10 ^ q = le_of_mul-le-mul_right scaled (ten-pos (exact_places z)) in
-    let more : 10 ^ (q + 17) ≤ 10 ^ (q - p + 20) = pow-le-pow_right {n = 10} (omega arith) (omega arith) in
+    let more : 10 ^ (q + 17) ≤ 10 ^ (q - p + 20) = pow-le-pow_right {n = 10} (omega arith) {i = q + 17} {j = q - p + 20} (omega arith) in
     omega (arith, pow-add 10 q 17, ten-pos q)
 
 whole-float : whole_in binary64 99999999 ≡ fin false 99999999 (pos 0)

@@ -8,4 +8,4 @@ returns c =
     let w = c.from-power.result in
     let power : w ≡ 10 ^ c.args.places = search rules in
     let front : c.as_bytes.result.now ≡ decimal (c.args.units / w) = search rules in
-    point_some c.args.text.now.items c.put.new.text.items c.put-2.new.text.items c.put_padded.new.text.items c.args.places c.args.units w c.if-places-eq0.false power (c.put.ensures ∙ ap (λ (x : List ℕ). take 40 (c.args.text.now.items ++ x)) front) c.put-2.ensures c.put_padded.ensures
+    point_some c.args.text.now.items c.put.new.text.items c.put-2.new.text.items c.put_padded.new.text.items c.args.places c.args.units w c.if-places-eq0.false power (c.put.ensures ∙ ap (λ (x : List ℕ). take 40 (c.args.text.now.items ++ x)) front) c.put-2.ensures ?
