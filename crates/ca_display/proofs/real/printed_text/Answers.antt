@@ -2,7 +2,7 @@ use Rattle.std.proofs.Common.{◌≡◌, ℕ, ◌+◌, ◌<◌, ◌⊎◌, min, 
 use Rattle.std.specs.Float.{Float, binary64, float_with_sign}
 use lib.Ieee.{lt, of_int, top}
 use Rattle.ca_display.specs.Decimal.{scientific_text, size_text, in_width}
-use Rattle.ca_display.specs.Real.{whole_in, fixed_limit, most_places, more_bytes, minus_text}
+use Rattle.ca_display.specs.Real.{whole_in, fixed_limit, most_places, more_bytes, minus_text, printed_text}
 use Rattle.ca_display.proofs.Decimals.{far-text}
 use Rattle.ca_display.proofs.Sizes.{up-to-limit}
 use Rattle.ca_display.proofs.real.printed_text.Goals as goal
@@ -23,7 +23,7 @@ returns-then-places-gt-MOST_PLACES g c =
     let kept : c.min-kept.result ≡ min p (most_places f) = c.min-kept.ensures ∙ ap (λ (m : ℕ). min p m) c.limits-limit.ensures.places in
     let width : c.from.result ≡ min p (most_places f) + more_bytes f = c.from.ensures ∙ ap₂ (λ (a b : ℕ). a + b) kept c.limits-limit.ensures.bytes in
     let text : c.put_size.new.text.items ≡ take 40 (sign ++ size_text (scientific_text (min p (most_places f))) x) = c.put_size.ensures ∙ ap₂ (λ (m : ℕ) (y : Float). take 40 (sign ++ size_text (scientific_text m) y)) kept c.as_double-double.ensures in
-    far-text f p c.from.result sign c.as_slice.result.now c.in_width.result.items x far width (c.as_slice.ensures.value ∙ text) c.in_width.ensures ∙ ?
+    far-text f p c.from.result sign c.as_slice.result.now c.in_width.result.items x far width (c.as_slice.ensures.value ∙ text) c.in_width.ensures ∙ ap (λ (z : List ℕ). take 40 (printed_text f p z x)) (c.sign_text-text.ensures ∙ ap minus_text c.is_minus.ensures)
 
 pub put_size-requires-2-clause-near : goal.put_size-requires-2-clause-near
 put_size-requires-2-clause-near g c = λ _.
