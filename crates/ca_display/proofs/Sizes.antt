@@ -1,14 +1,14 @@
 -- The size of a DOUBLE, from its bit pattern to its decimal digits.
-use Rattle.std.proofs.Common.{◌≡◌, ℕ, zero, suc, ◌+◌, ◌-◌, ◌*◌, ◌/◌, ◌%◌, ◌^◌, ◌≤◌, ◌<◌, min, ℤ, pos, negsuc, Bool, true, false, cond, List, [], ◌∷◌, length, from_bits, refl, sym, ap, ap₂, subst, subst₂, ◌∙◌, arith, inl, inr, pow-suc, pow-add, mul-one, mul-le-mul, mul-le-mul_left, mul-le-mul_right, lt_of_le_of_lt, lit<, ltb-false, eqb, leb, eq-zero-or-pos}
+use Rattle.std.proofs.Common.{◌≡◌, ℕ, zero, suc, ◌+◌, ◌-◌, ◌*◌, ◌/◌, ◌%◌, ◌^◌, ◌≤◌, ◌<◌, min, ℤ, pos, negsuc, Bool, true, false, cond, List, [], ◌∷◌, length, from_bits, refl, sym, ap, ap₂, subst, subst₂, ◌∙◌, arith, inl, inr, pow-add, mul-one, mul-le-mul, mul-le-mul_left, mul-le-mul_right, lt_of_le_of_lt, lit<, ltb-false, eqb, leb, eq-zero-or-pos}
 use Rattle.std.proofs.lemmas.Bool.{cases_lt}
 use Rattle.std.proofs.lemmas.Nat.{mul-pow}
 use Rattle.std.specs.Float.{Float, Format, binary32, binary64, nan, inf, fin, float_is_finite, float_is_infinite, float_with_sign}
 use native.Mathlib.Nat.{pow-le-pow_right, one-le-pow, eq_of_mul-eq-mul_right, le_of_mul-le-mul_right}
-use lib.Ieee.{is_nan, up, down, odd, of_fields, of_bits, hid, ones, top, lt, of_int}
+use lib.Ieee.{is_nan, up, down, odd, of_fields, of_bits, top, lt, of_int}
 use lib.Ieee.Exact.{HasValue, odd_sign}
 use Rattle.ca_display.specs.Decimal.{exact_units, exact_places, size_text}
 use Rattle.ca_display.specs.Real.{whole_in, fixed_limit}
-use Rattle.ca_display.specs.Exact.{number_of, AreDigits, CanRound, IsSize, IsUpTo}
+use Rattle.ca_display.specs.Exact.{number_of, AreDigits, IsSize, IsUpTo}
 use Rattle.ca_display.proofs.Digits.{ten-pos, ten-less, number-less}
 
 -- ---- the fields of a pattern

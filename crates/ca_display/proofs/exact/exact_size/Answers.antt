@@ -1,4 +1,4 @@
-use Rattle.std.proofs.Common.{◌≡◌, ℕ, ◌+◌, ◌-◌, ◌*◌, ◌/◌, ◌%◌, ◌^◌, ◌≤◌, ◌<◌, min, sym, subst, ap, ◌∙◌, arith}
+use Rattle.std.proofs.Common.{◌≡◌, ℕ, ◌+◌, ◌*◌, ◌%◌, ◌^◌, subst, ap, ◌∙◌, arith}
 use Rattle.ca_display.specs.Exact.{number_of, AreDigits}
 use Rattle.ca_display.proofs.Digits.{own-digits, start-value}
 use Rattle.ca_display.proofs.Sizes.{first-room, second-room, size-count, pattern-size}

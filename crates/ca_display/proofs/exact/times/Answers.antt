@@ -1,4 +1,4 @@
-use Rattle.std.proofs.Common.{◌≡◌, ℕ, ◌+◌, ◌*◌, ◌/◌, ◌%◌, ◌≤◌, ◌<◌, List, [], ◌∷◌, ◌++◌, length, get_or, take, sym, subst, ap, ◌∙◌, arith, length-append}
+use Rattle.std.proofs.Common.{◌≡◌, ℕ, ◌+◌, ◌*◌, ◌/◌, ◌%◌, ◌≤◌, ◌<◌, List, [], ◌∷◌, ◌++◌, get_or, take, sym, subst, ap, ◌∙◌, arith}
 use Rattle.std.specs.Int.Digits.{AllBelowBase}
 use Rattle.ca_display.specs.Exact.{number_of, with_above}
 use Rattle.ca_display.proofs.Digits.{below-push, below-at, times-step, digit-fits}

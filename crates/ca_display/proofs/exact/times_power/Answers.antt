@@ -1,4 +1,4 @@
-use Rattle.std.proofs.Common.{◌≡◌, ℕ, ◌+◌, ◌-◌, ◌*◌, ◌^◌, ◌≤◌, ◌<◌, sym, subst, ap, ◌∙◌, arith, lt_trans, lit<}
+use Rattle.std.proofs.Common.{ℕ, ◌-◌, ◌*◌, ◌^◌, ◌<◌, sym, subst, ap, ◌∙◌, arith, lt_trans, lit<}
 use Rattle.ca_display.specs.Exact.{number_of}
 use Rattle.ca_display.proofs.Digits.{own-digits, power-step, power-fits, factor-less}
 use native.Mathlib.Nat.{one-le-pow}

@@ -1,5 +1,5 @@
 use Rattle.std.proofs.Common.{◌≡◌, ℕ, List, [], ◌∷◌, ◌++◌, ◌+◌, ◌-◌, take, sym, ap, ◌∙◌, arith}
-use Rattle.ca_display.specs.Decimal.{padded_digits, exponent_text}
+use Rattle.ca_display.specs.Decimal.{padded_digits}
 use Rattle.ca_display.proofs.Decimals.{cut_more}
 use Rattle.ca_display.proofs.Roundings.{exponent-up, exponent-down}
 use Rattle.ca_display.proofs.printed.put_exponent.Goals as goal

@@ -1,6 +1,6 @@
-use Rattle.std.proofs.Common.{◌≡◌, ℕ, suc, ◌+◌, ◌-◌, ◌*◌, ◌^◌, ◌≤◌, ◌<◌, List, ◌++◌, take, sym, ap, ap₂, subst₂, ◌∙◌, arith, rules, pow-suc}
+use Rattle.std.proofs.Common.{◌≡◌, ℕ, suc, ◌+◌, ◌-◌, ◌^◌, ◌<◌, List, ◌++◌, take, sym, ap, ap₂, subst₂, ◌∙◌, arith, rules, pow-suc}
 use lib.Ieee.Nearest.{closest}
-use Rattle.ca_display.specs.Decimal.{point_text, exponent_text, digit_count, rounded_text, scientific_text}
+use Rattle.ca_display.specs.Decimal.{point_text, exponent_text, digit_count, scientific_text}
 use Rattle.ca_display.specs.Exact.{number_of}
 use Rattle.ca_display.proofs.Decimals.{cut_more}
 use Rattle.ca_display.proofs.Roundings.{count-more, count-fits, scientific-is, rounded-up, rounded-on}

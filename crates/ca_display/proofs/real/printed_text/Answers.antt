@@ -1,7 +1,7 @@
-use Rattle.std.proofs.Common.{◌≡◌, ℕ, ◌+◌, ◌<◌, ◌⊎◌, min, pos, Bool, true, false, List, ◌++◌, take, from_bits, sym, ap, ap₂, ◌∙◌, inl, inr, arith}
+use Rattle.std.proofs.Common.{◌≡◌, ℕ, ◌+◌, ◌<◌, ◌⊎◌, min, pos, true, false, List, ◌++◌, take, from_bits, sym, ap, ap₂, ◌∙◌, inl, inr, arith}
 use Rattle.std.specs.Float.{Float, binary64, float_with_sign}
-use lib.Ieee.{lt, of_int, top}
-use Rattle.ca_display.specs.Decimal.{scientific_text, size_text, in_width}
+use lib.Ieee.{lt, of_int}
+use Rattle.ca_display.specs.Decimal.{scientific_text, size_text}
 use Rattle.ca_display.specs.Real.{whole_in, fixed_limit, most_places, more_bytes, minus_text, printed_text}
 use Rattle.ca_display.proofs.Decimals.{far-text}
 use Rattle.ca_display.proofs.Sizes.{up-to-limit}

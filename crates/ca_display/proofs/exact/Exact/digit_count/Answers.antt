@@ -1,4 +1,4 @@
-use Rattle.std.proofs.Common.{◌≡◌, ℕ, ◌<◌, length, sym, ◌∙◌, arith, tests}
+use Rattle.std.proofs.Common.{◌<◌, length, ◌∙◌, arith, tests}
 use Rattle.ca_display.specs.Exact.{number_of}
 use Rattle.ca_display.proofs.Roundings.{count-of-digits}
 use Rattle.ca_display.proofs.exact.Exact.digit_count.Goals as goal

@@ -1,4 +1,4 @@
-use Rattle.std.proofs.Common.{◌≡◌, ℕ, ◌+◌, ◌/◌, ◌%◌, ◌≤◌, ◌<◌, ◌⊎◌, sym, ◌∙◌, inl, inr, arith}
+use Rattle.std.proofs.Common.{◌≡◌, ◌+◌, ◌/◌, ◌%◌, ◌<◌, ◌⊎◌, sym, ◌∙◌, inl, inr, arith}
 use Rattle.ca_display.specs.Exact.{number_of}
 use Rattle.ca_display.proofs.Digits.{all-zeros, not-zeros}
 use Rattle.ca_display.proofs.Roundings.{head-fits, digits-off}

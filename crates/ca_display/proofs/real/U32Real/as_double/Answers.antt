@@ -1,5 +1,4 @@
 use Rattle.std.proofs.Common.{ap, ◌∙◌}
-use Rattle.std.specs.Float.{Float}
 use lib.Ieee.{binary32, binary64, of_bits, to_bits}
 use lib.Ieee.Bits.{of_bits-to_bits, of_bits-fits}
 use lib.Ieee.Fits.{fits_widens}
