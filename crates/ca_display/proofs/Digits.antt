@@ -112,18 +112,10 @@ power-fits n b e s k some h l =
 pub own-digits : (ds : List ℕ) (n : ℕ) → AreDigits ds n → AreDigits ds (number_of ds)
 own-digits ds n are = subst (λ (m : ℕ). AreDigits ds m) (sym are.value) are
 
-pub no-digits : AreDigits [] 0
-no-digits = record { below = tt; value = refl; high = λ h. absurd (omega arith) }
-
 pub put-all : (ds : List ℕ) (n t : ℕ) → n ≤ 0 → AllBelowBase 10 ds → with_above ds n ≡ t → (0 < length ds → 10 ^ length ds ≤ 10 * t) → AreDigits ds t
 put-all ds n t none below same high =
     let zero' : n ≡ 0 = omega arith in
     record { below = below; value = omega (arith, same, ap (λ (z : ℕ). z * 10 ^ length ds) zero'); high = high }
-
-pub times-high : (ds xs : List ℕ) (n f t : ℕ) → AreDigits ds n → 0 < f → length xs ≡ length ds → t ≡ n * f → 0 < length xs → 10 ^ length xs ≤ 10 * t
-times-high ds xs n f t are some len is more =
-    let same : 10 ^ length xs ≡ 10 ^ length ds = ap (λ (k : ℕ). 10 ^ k) len in
-    omega (arith, are.high (omega arith), mul-le-mul_left n some)
 
 pub factor-less : (b s : ℕ) → b ≤ 5 → s ≤ 25 → b ^ s < 2 ^ 60
 factor-less b s h l =
