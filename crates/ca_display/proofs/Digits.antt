@@ -1,5 +1,5 @@
 -- Decimal digits, the lowest first, and the number that they are.
-use Rattle.std.proofs.Common.{◌≡◌, ℕ, zero, suc, ◌+◌, ◌-◌, ◌*◌, ◌/◌, ◌%◌, ◌^◌, ◌≤◌, ◌<◌, ◌⊎◌, Bool, true, false, ◌&&◌, ◌==◌, List, [], ◌∷◌, ◌++◌, length, get_or, take, drop, refl, sym, ap, subst, ◌∙◌, arith, inl, inr, pow-suc, pow-add, add-one, length-append, length-take, div-add-mod', mul-le-mul_left, mul-le-mul_right, lt_of_not-le, lt_of_le_of_lt, le_trans, lit<, eqb-true}
+use Rattle.std.proofs.Common.{◌≡◌, ℕ, zero, suc, ◌+◌, ◌-◌, ◌*◌, ◌/◌, ◌%◌, ◌^◌, ◌≤◌, ◌<◌, ◌⊎◌, Bool, true, false, ◌&&◌, ◌==◌, List, [], ◌∷◌, ◌++◌, length, get_or, take, drop, refl, sym, ap, subst, ◌∙◌, arith, inl, inr, pow-suc, pow-add, add-one, drop-cons, length-append, length-take, div-add-mod', mul-le-mul_left, mul-le-mul_right, lt_of_not-le, lt_of_le_of_lt, le_trans, lit<, eqb-true}
 use Rattle.std.proofs.lemmas.List.{take_more}
 use Rattle.std.specs.List.{list_all}
 use Rattle.std.specs.Int.Digits.{AllBelowBase}
@@ -44,6 +44,18 @@ number-split zero ds h = omega arith
 number-split (suc i) [] h = absurd (omega arith)
 number-split (suc i) (x ∷ xs) h =
     omega (arith, number-split i xs (omega arith), ap (λ (z : ℕ). z * number_of (drop i xs)) (pow-suc 10 i))
+
+-- a number's head is no more than it
+pub drop-le : (i : ℕ) (ds : List ℕ) → i ≤ length ds → number_of (drop i ds) ≤ number_of ds
+drop-le i ds h =
+    omega (arith, number-split i ds h, mul-le-mul_right (number_of (drop i ds)) (ten-pos i))
+
+-- one digit more, from the highest on
+pub drop-step : (ds : List ℕ) (i n : ℕ) → 0 < i → i ≤ length ds → n ≡ number_of (drop i ds) → n * 10 + get_or ds (i - 1) 0 ≡ number_of (drop (i - 1) ds)
+drop-step ds i n some within is =
+    let here : suc (i - 1) ≡ i = omega arith in
+    let step : number_of (drop (i - 1) ds) ≡ get_or ds (i - 1) 0 + 10 * number_of (drop (suc (i - 1)) ds) = ap number_of (drop-cons ds (i - 1) 0 (omega arith)) in
+    omega (arith, step, is, ap (λ (k : ℕ). number_of (drop k ds)) here)
 
 both : (a b : Bool) → (a && b) ≡ true → (a ≡ true) × (b ≡ true)
 both true b h = (refl, h)

@@ -23,7 +23,7 @@ const LOW: u64 = 1074;
 // A number is rounded to 18 digits at most.
 const ROUNDED: u64 = 18;
 
-// The highest power of 5 by which digits are multiplied at once.
+// By so many factors digits are multiplied at once: 10 * 5 ^ 25 is below 2 ^ 64.
 const MOST_AT_ONCE: u64 = 25;
 
 // Puts a number above digits.
@@ -79,10 +79,11 @@ fn value_of(digits: &[u8]) -> u128
     requires { number_of digits.now < 2 ^ 128 }
     ensures { result ≡ number_of digits.now }
 {
-    match digits.split_first() {
-        None => 0,
-        Some((digit, rest)) => u128::from(*digit) + 10 * value_of(rest),
+    let mut number = 0;
+    for place in (0..digits.len()).rev() {
+        number = number * 10 + u128::from(digits[place]);
     }
+    number
 }
 
 fn are_zeros(digits: &[u8]) -> bool

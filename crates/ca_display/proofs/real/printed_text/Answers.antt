@@ -15,10 +15,11 @@ returns-then-places-gt-MOST_PLACES g c =
     let x = from_bits f (g.R.Real.pattern c.args.bits) in
     let sign = c.sign_text-text.result.items in
     let size : c.abs-size.result ≡ float_with_sign false x = c.abs-size.ensures.value ∙ ap (float_with_sign false) (c.f64_from_bits_with_nan.ensures ∙ c.as_double-double.ensures) in
+    let limit : of_int binary64 (pos c.limits-limit.result.0) ≡ whole_in binary64 (fixed_limit f) = ap (λ (l : ℕ). of_int binary64 (pos l)) c.limits-limit.ensures.limit in
     let far : (8 < p) ⊎ (lt (whole_in binary64 (fixed_limit f)) (float_with_sign false x) ≡ true) =
     elim c.then-places-gt-MOST_PLACES.branch [
       | then-places-gt-MOST_PLACES-via-then-places-gt-MOST_PLACES w ↦ inl w.if-places-gt-MOST_PLACES.true
-      | then-places-gt-MOST_PLACES-via-else-places-gt-MOST_PLACES+then-nearest_u64_to_f64-size w ↦ inr (sym (ap₂ lt (w.nearest_u64_to_f64.ensures ∙ ap (λ (l : ℕ). of_int binary64 (pos l)) c.limits-limit.ensures.limit) size) ∙ w.if-nearest_u64_to_f64-size.true)
+      | then-places-gt-MOST_PLACES-via-else-places-gt-MOST_PLACES+then-nearest_u64_to_f64-size w ↦ inr (sym (ap₂ lt (w.nearest_u64_to_f64.ensures ∙ limit) size) ∙ w.if-nearest_u64_to_f64-size.true)
     ] in
     let kept : c.min-kept.result ≡ min p (most_places f) = c.min-kept.ensures ∙ ap (λ (m : ℕ). min p m) c.limits-limit.ensures.places in
     let width : c.from.result ≡ min p (most_places f) + more_bytes f = c.from.ensures ∙ ap₂ (λ (a b : ℕ). a + b) kept c.limits-limit.ensures.bytes in
