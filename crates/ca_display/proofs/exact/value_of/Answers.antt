@@ -1,5 +1,4 @@
-use Rattle.std.proofs.Common.{◌≡◌, ℕ, ◌+◌, ◌-◌, ◌*◌, get_or, drop, ap, ◌∙◌, arith}
-use Rattle.ca_display.specs.Exact.{number_of}
+use Rattle.std.proofs.Common.{◌-◌, arith}
 use Rattle.ca_display.proofs.Digits.{drop-le, drop-step}
 use Rattle.ca_display.proofs.exact.value_of.Goals as goal
 

@@ -23,7 +23,9 @@ returns-then-places-gt-MOST_PLACES g c =
     ] in
     let kept : c.min-kept.result ≡ min p (most_places f) = c.min-kept.ensures ∙ ap (λ (m : ℕ). min p m) c.limits-limit.ensures.places in
     let width : c.from.result ≡ min p (most_places f) + more_bytes f = c.from.ensures ∙ ap₂ (λ (a b : ℕ). a + b) kept c.limits-limit.ensures.bytes in
-    let text : c.put_size.new.text.items ≡ take 40 (sign ++ size_text (scientific_text (min p (most_places f))) x) = c.put_size.ensures ∙ ap₂ (λ (m : ℕ) (y : Float). take 40 (sign ++ size_text (scientific_text m) y)) kept c.as_double-double.ensures in
+    let text : c.put_size.new.text.items ≡ take 40 (sign ++ size_text (scientific_text (min p (most_places f))) x) =
+    ◌∙◌ {b = take 40 (sign ++ size_text (scientific_text c.min-kept.result) (from_bits binary64 c.as_double-double.result))} c.put_size.ensures
+    (ap₂ (λ (m : ℕ) (y : Float). take 40 (sign ++ size_text (scientific_text m) y)) kept c.as_double-double.ensures) in
     let all : c.in_width.result.items ≡ take 40 (printed_text f p sign x) = far-text f p c.from.result sign c.as_slice.result.now c.in_width.result.items x far width (c.as_slice.ensures.value ∙ text) c.in_width.ensures in
     all ∙ ap (λ (z : List ℕ). take 40 (printed_text f p z x)) (c.sign_text-text.ensures ∙ ap minus_text c.is_minus.ensures)
 
