@@ -4,3 +4,6 @@ pub mod Again
 pub mod Named
 pub mod Decimals
 pub mod Ten
+pub mod Digits
+pub mod Roundings
+pub mod Sizes

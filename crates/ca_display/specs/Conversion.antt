@@ -13,7 +13,7 @@ use Rattle.ca_display.specs.declared.number.Number.TheVariants as number
 use Rattle.ca_display.specs.Data.{DisplayData}
 use Rattle.ca_display.specs.Number.{whole_of, in_type, as_float, as_double, float_text, text_number}
 use Rattle.ca_display.specs.States.{state_text, state_number}
-use Rattle.ca_display.specs.Decimal.{real_text}
+use Rattle.ca_display.specs.Real.{real_text}
 
 -- what a number is made into, if there is one
 abbrev pub and_number : {T : Type 0} → (Number → Result T Refusal) → Result Number Refusal
@@ -73,10 +73,10 @@ enum_text d n = Ok (state_text d.states n)
 
 -- the text of a FLOAT, and of a DOUBLE
 abbrev pub float_shown : DisplayData → ℕ → Result (List ℕ) Refusal
-float_shown d n = real_text binary32 d.precision n
+float_shown d n = Ok (real_text binary32 d.precision n)
 
 abbrev pub double_shown : DisplayData → ℕ → Result (List ℕ) Refusal
-double_shown d n = real_text binary64 d.precision n
+double_shown d n = Ok (real_text binary64 d.precision n)
 
 -- Each type converts to itself, and a whole number to another and to its decimal text as for a
 -- record without display data.

@@ -6,5 +6,7 @@ pub mod Reading
 pub mod Number
 pub mod States
 pub mod Decimal
+pub mod Exact
+pub mod Real
 pub mod Conversion
 pub mod Alarm

@@ -10,9 +10,9 @@ ghost use Rattle.ca_display.specs.Data.{DisplayData, data_of};
 ghost use Rattle.ca_display.specs.Conversion.{state_of, enum_text, float_shown, double_shown};
 ghost use Rattle.ca_display.specs.Conversion.{in_numbers, display_converted};
 
-use crate::decimal::real_text;
 use crate::display::Display;
 use crate::numeric::{Numeric, TextToFloat, ToDouble, ToFloat, ToWhole};
+use crate::real::real_text;
 use crate::states::{state_number, state_text};
 use ca_dbr::{BaseType, Value, convert_all, convert_to, text_of};
 use ca_text::Refusal;
@@ -50,7 +50,7 @@ impl DisplayShown<[u8; 40]> for u32 {
     ghost gives = { float_shown };
 
     fn shown(self, display: &Display) -> Result<[u8; 40], Refusal> {
-        real_text(self, display.precision)
+        Ok(real_text(self, display.precision))
     }
 }
 
@@ -58,7 +58,7 @@ impl DisplayShown<[u8; 40]> for u64 {
     ghost gives = { double_shown };
 
     fn shown(self, display: &Display) -> Result<[u8; 40], Refusal> {
-        real_text(self, display.precision)
+        Ok(real_text(self, display.precision))
     }
 }
 
@@ -144,11 +144,10 @@ fn to_numbers<S: Numeric>(alloc: Global, items: &[S], base: BaseType) -> Result<
 /// Whole numbers go to FLOAT and DOUBLE, and a DOUBLE to a FLOAT, by nearest; FLOAT and DOUBLE go
 /// to a whole number towards zero. A text is the number that it writes, or for an ENUM the state
 /// whose name it is; an ENUM is as a text its state's name, if it has one, else its number, and a
-/// FLOAT or DOUBLE has as many places as the precision. What is too far from zero for a FLOAT or
-/// DOUBLE is infinite. Refused by the first element at fault: as BadText if it writes no number, as
-/// OutOfRange if it is outside a whole type, as NoConvert if it is a FLOAT or DOUBLE to be a text
-/// that is more than 10^7 from zero or no number, or has over 8 places; then as OutOfMemory, only
-/// if there are elements.
+/// FLOAT or DOUBLE what EPICS Base shows of it by the precision. What is too far from zero for a
+/// FLOAT or DOUBLE is infinite. Refused by the first element at fault: as BadText if it writes no
+/// number, as OutOfRange if it is outside a whole type; then as OutOfMemory, only if there are
+/// elements.
 pub fn convert_display(
     alloc: Global,
     value: &Value,

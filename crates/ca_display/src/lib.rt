@@ -7,12 +7,15 @@ mod conversion;
 mod decimal;
 mod display;
 mod display_type;
+mod exact;
 mod image;
 mod laws;
 mod limits;
 mod number;
 mod numeric;
+mod printed;
 mod reading;
+mod real;
 mod states;
 
 pub use alarm::alarm_of;

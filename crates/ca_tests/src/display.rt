@@ -421,7 +421,12 @@ fn states_as_texts(rt: HostRuntime) -> Result<(), Fail> {
 }
 
 /// Whether a DOUBLE or FLOAT is this text, with this precision.
-fn has_text(alloc: Global, value: &Value, precision: i16, bytes: &[u8]) -> Result<bool, Refusal> {
+pub(crate) fn has_text(
+    alloc: Global,
+    value: &Value,
+    precision: i16,
+    bytes: &[u8],
+) -> Result<bool, Refusal> {
     let display = Display::new(alloc, b"", precision, LIMITS)?;
     let to = Value::Strings(vec![in alloc; text(bytes)]?);
     Ok(convert_display(alloc, value, BaseType::String, &display)? == to)
@@ -470,29 +475,6 @@ fn floats_as_texts(rt: HostRuntime) -> Result<(), Fail> {
     ] {
         let value = Value::Floats(vec![in alloc; bits]?);
         assert!(rt; has_text(alloc, &value, precision, bytes)?);
-    }
-    Ok(())
-}
-
-#[test]
-fn no_texts(rt: HostRuntime) -> Result<(), Fail> {
-    let alloc = rt.alloc();
-    let mut display = gain(alloc)?;
-    // Above 10^7, and no number.
-    for bits in [
-        0x4163_12d0_1000_0000,
-        0x7ff8_0000_0000_0000,
-        0xfff0_0000_0000_0000,
-    ] {
-        let value = Value::Doubles(vec![in alloc; bits]?);
-        let result = convert_display(alloc, &value, BaseType::String, &display);
-        assert!(rt; result == Err(Refusal::NoConvert));
-    }
-    let value = Value::Floats(vec![in alloc; 0x4030_0000]?);
-    for precision in [9, -1] {
-        display.precision = precision;
-        let result = convert_display(alloc, &value, BaseType::String, &display);
-        assert!(rt; result == Err(Refusal::NoConvert));
     }
     Ok(())
 }

@@ -25,6 +25,8 @@ mod lines;
 #[cfg(test)]
 mod link;
 #[cfg(test)]
+mod printed;
+#[cfg(test)]
 mod repeat;
 #[cfg(test)]
 mod repeater;
