@@ -82,29 +82,9 @@ impl<L: Listener> Context<L> {
             names,
             repeater,
         } = setting;
-        let Ok(began) = Instant::now(&rt) else {
-            return Err(Refusal::Device);
-        };
-        let (sockets, call_poll, registry, datagrams) = open_sockets(&rt, alloc, repeater)?;
+        let parts = Parts::new(&rt, alloc, repeater)?;
         let state = ClientState::new(alloc, user, host, servers, &names, 0)?;
-        let locked = LockedClient::new(alloc, state)?;
-        let sockets_waker = waker(&registry)?;
-        let thread_waker = waker(call_poll.registry())?;
-        let shared = SharedClient::new(locked, sockets, sockets_waker, thread_waker);
-        let shared = Arc::new(alloc, shared)?;
-        let engine = Engine {
-            net: rt,
-            shared: Arc::try_clone(&shared)?,
-            registry,
-            call_poll,
-            events: Events::with_capacity(alloc, 4)?,
-            datagrams,
-            tries: Tries::new(alloc),
-            listeners: SubscribedListeners::new(alloc)?,
-            told: Vec::new(alloc),
-            moments: Moments::new(began),
-        };
-        Ok((Context { shared }, engine))
+        joined(rt, alloc, state, parts)
     }
 
     /// A caller, for one thread.
@@ -552,26 +532,91 @@ impl<L: Listener> LockedClient<L> {
     }
 }
 
-// What waits for the sockets, and what waits to be called; where sockets are registered; and the
-// socket for datagrams. A register goes to the repeater, if there is one.
-fn open_sockets<R: Net>(
-    rt: &R,
-    alloc: Global,
-    repeater: Option<Address>,
-) -> Result<(SocketPoll, Poll, Registry, UdpSocket), Refusal> {
-    let sockets = SocketPoll {
-        poll: poll(rt)?,
-        events: Events::with_capacity(alloc, 256)?,
-    };
-    let call_poll = poll(rt)?;
-    let Ok(registry) = sockets.poll.registry().try_clone() else {
-        return Err(Refusal::Device);
-    };
-    let datagrams = datagrams(rt, &registry, call_poll.registry())?;
-    if let Some(address) = repeater {
-        let _ = datagrams.send_to(&register(Ipv4Addr::LOCALHOST), to_system(address));
+// What an engine is made of, beside the client's state.
+#[derive(Drop)]
+struct Parts<L: Listener> {
+    sockets: SocketPoll,
+    sockets_waker: Waker,
+    registry: Registry,
+    call_poll: Poll,
+    thread_waker: Waker,
+    events: Events<Global>,
+    datagrams: UdpSocket,
+    listeners: SubscribedListeners<L>,
+    began: Instant,
+}
+
+impl<L: Listener> Parts<L> {
+    // A register goes to the repeater, if there is one.
+    fn new<R: Net + Clock>(
+        rt: &R,
+        alloc: Global,
+        repeater: Option<Address>,
+    ) -> Result<Parts<L>, Refusal> {
+        let Ok(began) = Instant::now(rt) else {
+            return Err(Refusal::Device);
+        };
+        let sockets = SocketPoll {
+            poll: poll(rt)?,
+            events: Events::with_capacity(alloc, 256)?,
+        };
+        let call_poll = poll(rt)?;
+        let Ok(registry) = sockets.poll.registry().try_clone() else {
+            return Err(Refusal::Device);
+        };
+        let datagrams = datagrams(rt, &registry, call_poll.registry())?;
+        if let Some(address) = repeater {
+            let _ = datagrams.send_to(&register(Ipv4Addr::LOCALHOST), to_system(address));
+        }
+        Ok(Parts {
+            sockets_waker: waker(&registry)?,
+            thread_waker: waker(call_poll.registry())?,
+            sockets,
+            registry,
+            call_poll,
+            datagrams,
+            events: Events::with_capacity(alloc, 4)?,
+            listeners: SubscribedListeners::new(alloc)?,
+            began,
+        })
     }
-    Ok((sockets, call_poll, registry, datagrams))
+}
+
+fn joined<R: Net + Clock + Copy + Drop, L: Listener>(
+    rt: R,
+    alloc: Global,
+    state: ClientState,
+    parts: Parts<L>,
+) -> Result<(Context<L>, Engine<R, L>), Refusal> {
+    let Parts {
+        sockets,
+        sockets_waker,
+        registry,
+        call_poll,
+        thread_waker,
+        events,
+        datagrams,
+        listeners,
+        began,
+    } = parts;
+    let locked = LockedClient::new(alloc, state)?;
+    let shared = Arc::new(
+        alloc,
+        SharedClient::new(locked, sockets, sockets_waker, thread_waker),
+    )?;
+    let engine = Engine {
+        net: rt,
+        shared: Arc::try_clone(&shared)?,
+        registry,
+        call_poll,
+        events,
+        datagrams,
+        tries: Tries::new(alloc),
+        listeners,
+        told: Vec::new(alloc),
+        moments: Moments::new(began),
+    };
+    Ok((Context { shared }, engine))
 }
 
 fn poll<R: Net>(rt: &R) -> Result<Poll, Refusal> {

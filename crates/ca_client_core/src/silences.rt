@@ -6,8 +6,8 @@ ghost use Rattle.ca_model.specs.ClientEnds.{Ticking};
 ghost use Rattle.ca_client_core.specs.Foretold.{Notes};
 ghost use Rattle.ca_client_core.specs.Marks.{undone};
 ghost use Rattle.ca_client_core.specs.Moments.{EchoIsDue, EchoesAll, all_echoed, asked_at};
-ghost use Rattle.ca_client_core.specs.Moments.{echo_step, is_close, is_echo, is_echo_due, is_silent};
-ghost use Rattle.ca_client_core.specs.Moments.{silent_of};
+ghost use Rattle.ca_client_core.specs.Moments.{echo_step, is_close, is_echo, is_echo_due};
+ghost use Rattle.ca_client_core.specs.Moments.{is_silent, silent_of};
 ghost use Rattle.ca_client_core.specs.Silences.{echoed};
 
 use crate::client::ClientCore;

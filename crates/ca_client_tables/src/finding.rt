@@ -71,15 +71,7 @@ pub fn find(
         (tables channels.new circuits.new order.new.items) }
 {
     let mut opening = Vec::new(alloc);
-    let found = find_one(
-        alloc,
-        channels,
-        circuits,
-        &mut opening,
-        order,
-        from,
-        reply,
-    )?;
+    let found = find_one(alloc, channels, circuits, &mut opening, order, from, reply)?;
     match circuits.open_all(opening) {
         Ok(()) => match found {
             Some(found) => Ok(Some(found.channel)),
