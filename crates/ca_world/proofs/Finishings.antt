@@ -370,7 +370,6 @@ set-aside waits i core name p sent ks header_only after last j c told at bare_is
     ∙ ap (λ (d : List history.Told). slice_set (map f ks) k (with_down d (f j))) (told_is ∙ ap (λ (d : List history.Told). d ++ reply) (sym (down-kept waits i core name j)))
     ∙ sym (replied-there p sent (map f ks) (f j) mapped)
     ∙ ap (replied_in p sent) (sym (numbered-map waits i core name ks))
-  where
 
 -- ---- circuits of the world
 

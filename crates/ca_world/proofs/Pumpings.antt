@@ -198,7 +198,6 @@ module _ (cs : List ClientSide) (ss : List ServerSide) (ks : List Joined) (cl : 
             };
           },
         )
-      where
 
     -- there was no memory for a put that waits, or for an update that may leave
     lacks-there : (all_withdrawn k y.records.items ≢ []) ⊎ MayPump y.core (joined_of j) → HasWaiting k (server_of y) ⊎ MayPump y.core (joined_of j)

@@ -58,7 +58,7 @@ returns-in-Err-clause-reads c =
     let whole : Shape = record { data_type = c.args.data_type; count = c.args.count } in
     let same : a ≡ whole = λ t. record { data_type = c.in-Some.ensures.0 t; count = c.in-Some.ensures.1 t } in
     let r = c.in_ok-handle.ensures.ready in
-    subst (λ (z : Shape). ReadsOn c.args.client c.args.channel z (client_of x) (lines_in c.args.logs.now.items) (map joined_of c.args.circuits.now.items) c.note.result _ _ _) same
+    subst (λ (z : Shape). ReadsOn c.args.client c.args.channel z (client_of x) (lines_in c.args.logs.now.items) (map joined_of c.args.circuits.now.items) c.note.result (record (client_of y) { core = c.read.new.self }) (lines_in c.note.new.logs.items) (map joined_of c.prepare.new.circuits.items)) same
     (reads-moved c.args.client c.args.channel a (client_of x) (client_of y) _ (lines_in c.args.logs.now.items) (lines_in c.prepare.new.logs.items) _ (map joined_of c.args.circuits.now.items) (map joined_of c.prepare.new.circuits.items) _ _
     c.prepare.ensures.side c.prepare.ensures.logs c.prepare.ensures.circuits
     (reads-noted c.args.client c.args.channel a (client_of y) _ (lines_in c.prepare.new.logs.items) _ (map joined_of c.prepare.new.circuits.items) c.in_ok-handle.handle c.in-Err.refusal c.in-Err.ensures.0 c.read.new.self c.note.result

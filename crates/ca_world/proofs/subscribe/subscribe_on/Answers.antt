@@ -61,7 +61,7 @@ returns-in-Err-clause-subscribes c =
     let whole : Shape = record { data_type = c.args.data_type; count = c.args.count } in
     let same : a ≡ whole = λ t. record { data_type = c.in-Some.ensures.0 t; count = c.in-Some.ensures.1 t } in
     let r = c.in_ok-handle.ensures.ready in
-    subst (λ (z : Shape). SubscribesOn c.args.client c.args.channel z c.args.mask (client_of x) (lines_in c.args.logs.now.items) (map joined_of c.args.circuits.now.items) c.note.result _ _ _) same
+    subst (λ (z : Shape). SubscribesOn c.args.client c.args.channel z c.args.mask (client_of x) (lines_in c.args.logs.now.items) (map joined_of c.args.circuits.now.items) c.note.result (record (client_of y) { core = c.subscribe.new.self }) (lines_in c.note.new.logs.items) (map joined_of c.prepare.new.circuits.items)) same
     (subscribes-moved c.args.client c.args.channel a c.args.mask (client_of x) (client_of y) _ (lines_in c.args.logs.now.items) (lines_in c.prepare.new.logs.items) _ (map joined_of c.args.circuits.now.items) (map joined_of c.prepare.new.circuits.items) _ _
     c.prepare.ensures.side c.prepare.ensures.logs c.prepare.ensures.circuits
     (subscribes-noted c.args.client c.args.channel a c.args.mask (client_of y) _ (lines_in c.prepare.new.logs.items) _ (map joined_of c.prepare.new.circuits.items) c.in_ok-handle.handle c.in-Err.refusal c.in-Err.ensures.0 c.subscribe.new.self c.note.result

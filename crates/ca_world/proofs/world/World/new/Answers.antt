@@ -40,3 +40,18 @@ invariant_of-result c =
       named = subst (λ (z : model.World). AreMeant z.clients) (sym is) (mean-opening s);
       fit = subst (λ (z : model.World). ServersFit z) (sym is) (opening-servers s c.config.invariant);
     }
+
+pub returns-clause-opening : goal.returns-clause-opening
+returns-clause-opening c =
+    let s : Setting = record { clients = c.config.inside.clients.items; servers = c.config.inside.servers.items } in
+    let none : map joined_of c.new.result.items ≡ [] = ap (map joined_of) c.new.ensures.items in
+    let known : c.deref-2.result.now ≡ addresses s.servers = c.deref-2.ensures.value ∙ c.in_ok-servers_at.ensures ∙ ap (map address_of) c.deref.ensures.value ∙ addresses-begun s.servers c.in_ok-servers.servers.items c.in_ok-servers.ensures.0 in
+    let is : _ ≡ opening s = λ t. record {
+      clients = (c.in_ok-clients.ensures.0 ∙ ap (λ (a : List Address). numbered 0 (client_begun a 0) s.clients) known) t;
+      servers = c.in_ok-servers.ensures.0 t;
+      circuits = none t;
+      client_logs = c.in_ok-clients.ensures.1 t;
+      server_logs = c.in_ok-servers.ensures.1 t;
+      moment = 0;
+    } in
+    is ∙ ap opening c.config.view_is
