@@ -305,9 +305,9 @@ fn steps<L: Ledger, R: Clock>(
     Turn::Busy
 }
 
-// Pumps the circuit, and hands what waits over to the socket. A circuit is idle if nothing more waits then: neither
-// bytes nor updates, which a pump leaves in the queues once 262,144 bytes wait. One that is closed
-// is counted, and has no bell any more.
+// Pumps the circuit, and hands what waits over to the socket. A circuit is idle if nothing more
+// waits then: neither bytes nor updates, which a pump leaves in the queues once 262,144 bytes wait.
+// One that is closed is counted, and has no bell any more.
 fn take_out<L: Ledger>(
     locked: &mut LockedServer<L>,
     circuit: Handle,

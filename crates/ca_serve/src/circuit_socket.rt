@@ -3,7 +3,7 @@
 use crate::accepting::SOCKET;
 use ca_arena::Handle;
 use ca_server::State;
-use ca_server_core::Outgoing;
+use ca_server_core::CircuitOutput;
 use ca_text::{OUTPUT_LIMIT, Refusal};
 use ca_wire::Pipe;
 use mio::net::TcpStream;
@@ -40,7 +40,7 @@ pub(crate) struct CircuitSocket {
     // The poll that all parked circuits share tells of room, too.
     asks_room: bool,
     pub(crate) input: Vec<u8>,
-    output: Outgoing,
+    output: CircuitOutput,
     // These bytes were taken in the last turn.
     is_taken: bool,
     /// How many bytes of the output were written.
@@ -89,7 +89,7 @@ impl CircuitSocket {
             parker,
             asks_room: false,
             input: vec![in alloc; 0; PARKED_ROOM]?,
-            output: Outgoing::new(alloc),
+            output: CircuitOutput::new(alloc),
             is_taken: false,
             written: 0,
         })
@@ -100,7 +100,7 @@ impl CircuitSocket {
     }
 
     /// What was taken for output in the last turn: it gives that once.
-    pub(crate) fn taken(&mut self) -> Option<&Outgoing> {
+    pub(crate) fn taken(&mut self) -> Option<&CircuitOutput> {
         let is_taken = self.is_taken;
         self.is_taken = false;
         is_taken.then_some(&self.output)
@@ -252,7 +252,7 @@ impl CircuitSocket {
     // What was written is let go of while the circuit is parked.
     fn let_go(&mut self) {
         if self.own.is_none() {
-            self.output = Outgoing::new(*self.input.allocator());
+            self.output = CircuitOutput::new(*self.input.allocator());
         }
     }
 
@@ -317,7 +317,7 @@ impl Own {
 }
 
 // The parts of what leaves from this byte on, as many as are written at once.
-fn rest_of(output: &Outgoing, written: usize) -> [&[u8]; 3] {
+fn rest_of(output: &CircuitOutput, written: usize) -> [&[u8]; 3] {
     let mut left = written;
     for piece in output.pieces() {
         let (before, header, image) = piece.parts();

@@ -1,7 +1,7 @@
 //! The replies of one circuit, counted as they go to its socket, with no lock held.
 
 use crate::meter::{Meter, Replies};
-use ca_server_core::Outgoing;
+use ca_server_core::CircuitOutput;
 use ca_text::{Command, Status};
 use ca_wire::{Header, One, read_one};
 use std::alloc::Global;
@@ -49,7 +49,7 @@ impl Tally {
     }
 
     /// Counts all replies that leave. Each image is that of an update.
-    pub(crate) fn count_all(&mut self, output: Option<&Outgoing>) {
+    pub(crate) fn count_all(&mut self, output: Option<&CircuitOutput>) {
         let Some(output) = output else {
             return;
         };

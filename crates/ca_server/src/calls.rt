@@ -7,14 +7,14 @@ ghost use Rattle.ca_model.specs.Server.{Server};
 ghost use Rattle.ca_model.specs.ServerCalls.{AddsRecord, Beacons, Posts, Removes, stamped};
 ghost use Rattle.ca_model.specs.ServerSteps.{Accepts, Cuts, Gives, Pumps, Update};
 ghost use Rattle.ca_records.specs.Record.{unset};
-ghost use Rattle.ca_server_circuit.specs.Outgoing.{bytes_of};
+ghost use Rattle.ca_server_circuit.specs.CircuitOutput.{bytes_of};
 ghost use Rattle.ca_server_core.specs.Pumping.{HandsOver};
 ghost use Rattle.ca_text.specs.declared.refusal.Refusal.TheVariants.{OutOfMemory};
 
 use crate::state::State;
 use ca_arena::Handle;
 use ca_dbr::{Meta, Value};
-use ca_server_core::Outgoing;
+use ca_server_core::CircuitOutput;
 use ca_text::Refusal;
 use std::sync::ledger::Ledger;
 
@@ -41,11 +41,11 @@ impl<L: Ledger> State<L> {
         self.core.give(circuit, bytes)
     }
 
-    /// Updates that wait on a circuit leave their queues until none may go, and then all bytes leave
-    /// the circuit, those that wait or that its end left, in place of what is there. Up to this many
-    /// bytes are copied, and more come with their memory; an image that several circuits send is
+    /// Updates that wait on a circuit leave their queues until none may go. Then all bytes leave
+    /// the circuit, those that wait or that its end left, in place of what is there. Up to this
+    /// many are copied, and more come with their memory; an image that several circuits send is
     /// not copied. If there is no memory for the next update, the end of the circuit has ended.
-    pub fn pump_over(&mut self, circuit: Handle, copied: usize, to: &mut Outgoing)
+    pub fn pump_over(&mut self, circuit: Handle, copied: usize, to: &mut CircuitOutput)
         ensures call { (updates : List Update) × ((mid : Server)
             × Pumps self.old.core circuit updates mid
             × HandsOver mid circuit (bytes_of to.new) self.new.core) }

@@ -19,7 +19,7 @@ use Rattle.ca_model.specs.ServerSteps.{Leaves, Rests, Update}
 use Rattle.ca_model.specs.Speech.{Stored}
 use Rattle.ca_model.specs.Updates.{ShowsTo, update_count}
 use Rattle.ca_server_subscriptions.specs.Sharing.{IsUpdateOf}
-use Rattle.ca_server_circuit.specs.Outgoing.{Grows, OutgoingState, SendsBehind, addressed, behind, bytes_of, emptied_end, end_behind}
+use Rattle.ca_server_circuit.specs.CircuitOutput.{Grows, OutputState, SendsBehind, addressed, behind, bytes_of, emptied_end, end_behind}
 use Rattle.ca_server_circuit.specs.Pumping.{PumpsEnd, PumpsOne, PumpsOver}
 use Rattle.ca_server_circuit.proofs.Pumps.{rests-full, shows-update}
 
@@ -35,27 +35,27 @@ err-both (Err e) f p q = f p q
 
 -- ---- how more leaves
 
-pub grows-same : (o : OutgoingState) → Grows o o
+pub grows-same : (o : OutputState) → Grows o o
 grows-same o = record { last = refl; shares = refl; whole = λ e. refl }
 
-pub grows-then : (a b c : OutgoingState) → Grows a b → Grows b c → Grows a c
+pub grows-then : (a b c : OutputState) → Grows a b → Grows b c → Grows a c
 grows-then a b c p q = record {
   last = q.last ∙ p.last;
   shares = q.shares ∙ p.shares;
   whole = λ e. q.whole (p.shares ∙ e) ∙ p.whole e;
 }
 
-pub grows-is : (a b : OutgoingState) → b ≡ a → Grows a b
-grows-is a b is = subst (λ (o : OutgoingState). Grows a o) (sym is) (grows-same a)
+pub grows-is : (a b : OutputState) → b ≡ a → Grows a b
+grows-is a b is = subst (λ (o : OutputState). Grows a o) (sym is) (grows-same a)
 
 true-false : {A : Type 0} (b : Bool) → b ≡ true → b ≡ false → A
 true-false b on off = absurd cc
 
-pub grows-shared : (a b : OutgoingState) (before : List ℕ) → a.shares ≡ true → b ≡ record a { before = before } → Grows a b
+pub grows-shared : (a b : OutputState) (before : List ℕ) → a.shares ≡ true → b ≡ record a { before = before } → Grows a b
 grows-shared a b before on is =
-    subst (λ (o : OutgoingState). Grows a o) (sym is) (record { last = refl; shares = refl; whole = λ e. true-false a.shares on e })
+    subst (λ (o : OutputState). Grows a o) (sym is) (record { last = refl; shares = refl; whole = λ e. true-false a.shares on e })
 
-pub grows-by : (r : Result (Unit {0}) AllocError) (a b : OutgoingState) (before : List ℕ) → a.shares ≡ true → OnOk r (b ≡ record a { before = before }) → OnErr r (b ≡ a) → Grows a b
+pub grows-by : (r : Result (Unit {0}) AllocError) (a b : OutputState) (before : List ℕ) → a.shares ≡ true → OnOk r (b ≡ record a { before = before }) → OnErr r (b ≡ a) → Grows a b
 grows-by (Ok u) a b before on is same = grows-shared a b before on is
 grows-by (Err e) a b before on is same = grows-is a b same
 
@@ -65,24 +65,24 @@ drop-whole (x ∷ xs) = drop-whole xs
 
 -- ---- the message behind all others
 
-pub sends-behind : (m : Fields) (o : OutgoingState) (l k : LinkState) → k ≡ with_sent (m ∷ []) l → SendsBehind m o l o k
+pub sends-behind : (m : Fields) (o : OutputState) (l k : LinkState) → k ≡ with_sent (m ∷ []) l → SendsBehind m o l o k
 sends-behind m o l k is =
     ap (λ (x : LinkState). behind o.before x) is
     ∙ ap (λ (out : List ℕ). let x : LinkState = record l { output = out } in x) (sym (append_assoc o.before l.output (spelled (m ∷ []))))
 
-pub stays-behind : (o n : OutgoingState) (l k : LinkState) → (k ≡ l) × (n ≡ o) → behind n.before k ≡ behind o.before l
-stays-behind o n l k same = ap (λ (x : OutgoingState). behind x.before k) same.1 ∙ ap (λ (x : LinkState). behind o.before x) same.0
+pub stays-behind : (o n : OutputState) (l k : LinkState) → (k ≡ l) × (n ≡ o) → behind n.before k ≡ behind o.before l
+stays-behind o n l k same = ap (λ (x : OutputState). behind x.before k) same.1 ∙ ap (λ (x : LinkState). behind o.before x) same.0
 
-pub shares-behind : (m : Fields) (o n : OutgoingState) (l k : LinkState) → n ≡ record o { before = o.before ++ (l.output ++ spelling m) } → k ≡ with_handed (length l.output) l → SendsBehind m o l n k
+pub shares-behind : (m : Fields) (o n : OutputState) (l k : LinkState) → n ≡ record o { before = o.before ++ (l.output ++ spelling m) } → k ≡ with_handed (length l.output) l → SendsBehind m o l n k
 shares-behind m o n l k taken handed =
     let more : List ℕ = l.output ++ spelling m in
-    ap (λ (x : OutgoingState). behind x.before k) taken
+    ap (λ (x : OutputState). behind x.before k) taken
     ∙ ap (λ (x : LinkState). behind (o.before ++ more) x) handed
     ∙ ap (λ (out : List ℕ). let x : LinkState = record l { output = out } in x) (
-      ap (λ (rest : List ℕ). (o.before ++ more) ++ rest) (drop-whole l.output)
-      ∙ append-nil (o.before ++ more)
-      ∙ sym (append_assoc o.before l.output (spelling m))
-      ∙ ap (λ (s : List ℕ). (o.before ++ l.output) ++ s) (sym (append-nil (spelling m)))
+    ap (λ (rest : List ℕ). (o.before ++ more) ++ rest) (drop-whole l.output)
+    ∙ append-nil (o.before ++ more)
+    ∙ sym (append_assoc o.before l.output (spelling m))
+    ∙ ap (λ (s : List ℕ). (o.before ++ l.output) ++ s) (sym (append-nil (spelling m)))
     )
 
 -- what is shared, to a subscription that asks for it
@@ -124,11 +124,11 @@ pub full-one : (v e : ServerEnd) (b : List ℕ) → v ≡ e → output_limit ≤
 full-one v e b is full = subst (λ (x : ServerEnd). PumpsOne (end_behind b x) (Ok false) (end_behind b x)) is (rests-full (end_behind b v) full, refl)
 
 -- nothing left before, and nothing is shared
-pub pumps-whole : (old new : ServerEnd) (r : Result (Unit {0}) AllocError) (o n : OutgoingState) → (let none : List ℕ = [] in o ≡ record { before = none; last = none; shares = false }) → Grows o n → PumpsEnd (end_behind o.before old) r (end_behind n.before new)
+pub pumps-whole : (old new : ServerEnd) (r : Result (Unit {0}) AllocError) (o n : OutputState) → (let none : List ℕ = [] in o ≡ record { before = none; last = none; shares = false }) → Grows o n → PumpsEnd (end_behind o.before old) r (end_behind n.before new)
     → PumpsEnd old r new
 pumps-whole old new r o n is grows did =
-    let none : o.before ≡ [] = ap (λ (x : OutgoingState). x.before) is in
-    let same : n.before ≡ [] = grows.whole (ap (λ (x : OutgoingState). x.shares) is) ∙ none in
+    let none : o.before ≡ [] = ap (λ (x : OutputState). x.before) is in
+    let same : n.before ≡ [] = grows.whole (ap (λ (x : OutputState). x.shares) is) ∙ none in
     subst (λ (b : List ℕ). PumpsEnd old r (end_behind b new)) same (subst (λ (b : List ℕ). PumpsEnd (end_behind b old) r (end_behind n.before new)) none did)
 
 emptied-so : (b : List ℕ) (e : ServerEnd) → (let x : ServerEnd = record e { link = with_handed (length e.link.output) e.link } in x) ≡ emptied_end (end_behind b e)
@@ -136,7 +136,7 @@ emptied-so b e =
     ap (λ (out : List ℕ). let l : LinkState = record e.link { output = out } in let x : ServerEnd = record e { link = l } in x) (drop-whole e.link.output ∙ sym (drop-whole (b ++ e.link.output)))
 
 -- all that waits leaves at the end
-pub pumps-over : (old mid new : ServerEnd) (r : Result (Unit {0}) AllocError) (o n last : OutgoingState) (k : LinkState) → (let none : List ℕ = [] in (o.before ≡ none) × (o.last ≡ none)) → Grows o n → PumpsEnd (end_behind o.before old) r (end_behind n.before mid)
+pub pumps-over : (old mid new : ServerEnd) (r : Result (Unit {0}) AllocError) (o n last : OutputState) (k : LinkState) → (let none : List ℕ = [] in (o.before ≡ none) × (o.last ≡ none)) → Grows o n → PumpsEnd (end_behind o.before old) r (end_behind n.before mid)
     → last ≡ record n { last = mid.link.output } → k ≡ with_handed (length mid.link.output) mid.link → new ≡ record mid { link = k } → PumpsOver old r new (bytes_of last)
 pumps-over old mid new r o n last k nothing grows did taken handed is =
     subst (λ (out : List ℕ). PumpsOver old r new out) (sym (ap bytes_of taken))

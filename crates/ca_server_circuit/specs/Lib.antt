@@ -22,4 +22,4 @@ pub mod Concerned
 pub mod Names
 pub mod AtOnce
 pub mod ByName
-pub mod Outgoing
+pub mod CircuitOutput

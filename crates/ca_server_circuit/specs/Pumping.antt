@@ -13,7 +13,7 @@ use Rattle.ca_model.specs.Server as server
 use Rattle.ca_model.specs.ServerSteps.{Leaves, Rests, Update}
 use Rattle.ca_server_circuit.specs.Concerned.{bytes_on}
 use Rattle.ca_server_circuit.specs.Ending.{WithdrawsAll}
-use Rattle.ca_server_circuit.specs.Outgoing.{emptied, emptied_end}
+use Rattle.ca_server_circuit.specs.CircuitOutput.{emptied, emptied_end}
 use Rattle.ca_server_circuit.specs.Subscribing.{events_of}
 use Rattle.ca_server_subscriptions.specs.Subscribed.{HasRoom}
 

@@ -14,7 +14,7 @@ ghost use Rattle.ca_server_circuit.specs.Concerned.{ConcernsOn, SizesOn, bytes_o
 ghost use Rattle.ca_server_circuit.specs.Ending.{ArePutsAt, EndsAt, IsLeft, WithdrawsAll};
 ghost use Rattle.ca_server_circuit.specs.Finishing.{RepliesAt};
 ghost use Rattle.ca_server_circuit.specs.Peeking.{NamesAt, peer_on};
-ghost use Rattle.ca_server_circuit.specs.Outgoing.{bytes_of};
+ghost use Rattle.ca_server_circuit.specs.CircuitOutput.{bytes_of};
 ghost use Rattle.ca_server_circuit.specs.Posting.{IsCopyAt, PostsAt, WatchesAt, stored_of};
 ghost use Rattle.ca_server_circuit.specs.Pumping.{PumpsAt, PumpsOverAt};
 ghost use Rattle.ca_server_circuit.specs.Removing.{LosesAt, MayLose};
@@ -23,8 +23,8 @@ ghost use Rattle.ca_server_circuit.specs.Stepping.{why_is};
 ghost use Rattle.ca_server_subscriptions.specs.Sharing.{IsCopy};
 
 use crate::cause::EndCause;
+use crate::circuit_output::CircuitOutput;
 use crate::end::End;
-use crate::outgoing::Outgoing;
 use crate::step::EndStep;
 use ca_arena::Handle;
 use ca_link::Spares;
@@ -236,15 +236,15 @@ impl Circuit {
         }
     }
 
-    /// Updates leave the queues of its end until none may, and with them all bytes that wait, or that
-    /// its end left. The end has ended if there is no memory for the next. Up to this many bytes are
-    /// copied.
+    /// Updates leave the queues of its end until none may, and with them all bytes that wait, or
+    /// that its end left. The end has ended if there is no memory for the next. Up to this many
+    /// bytes are copied.
     pub fn pump_over(
         &mut self,
         circuit: Handle,
         records: &mut ServedRecords,
         copied: usize,
-        to: &mut Outgoing,
+        to: &mut CircuitOutput,
     )
         requires sound { CircuitIsSound (records_of records.old) circuit self.old }
         requires nothing { (to.old.before ≡ []) × (to.old.last ≡ []) }

@@ -13,15 +13,15 @@ ghost use Rattle.ca_model.specs.Server.{concerns, with_post};
 ghost use Rattle.ca_model.specs.Updates.{ShowsTo};
 ghost use Rattle.ca_server_circuit.specs.AtOnce.{ShowsAtOnce};
 ghost use Rattle.ca_server_circuit.specs.Concerned.{ShowsWithin, SizesAt};
-ghost use Rattle.ca_server_circuit.specs.Outgoing.{Grows, SendsBehind, bytes_of, end_behind};
+ghost use Rattle.ca_server_circuit.specs.CircuitOutput.{Grows, SendsBehind, bytes_of, end_behind};
 ghost use Rattle.ca_server_circuit.specs.Pumping.{PumpsEnd, PumpsOne, PumpsOver, scalar_update};
 ghost use Rattle.ca_server_circuit.specs.Subscribing.{events_of};
 ghost use Rattle.ca_server_circuit.specs.Posting.{stored_of};
 ghost use Rattle.ca_server_subscriptions.specs.Sharing.{IsCopy};
 ghost use Rattle.ca_server_subscriptions.specs.Subscribed.{IsAskable, is_on};
 
+use crate::circuit_output::CircuitOutput;
 use crate::end::End;
-use crate::outgoing::Outgoing;
 use crate::read::status_of;
 use crate::shown::{Shown, Zeros};
 use ca_dbr::image_size;
@@ -107,13 +107,17 @@ impl End {
         if self.subscriptions.is_idle() {
             return Ok(());
         }
-        let mut whole = Outgoing::sharing(self.alloc, false);
+        let mut whole = CircuitOutput::sharing(self.alloc, false);
         self.pump_all(&mut whole)
     }
 
     /// Updates leave until none may go, and all that waits with them. Without memory for the next
     /// those before it leave, and the end is to be closed. Up to this many bytes are copied.
-    pub(crate) fn pump_over(&mut self, copied: usize, to: &mut Outgoing) -> Result<(), AllocError>
+    pub(crate) fn pump_over(
+        &mut self,
+        copied: usize,
+        to: &mut CircuitOutput,
+    ) -> Result<(), AllocError>
         requires open { IsOpen self.old.link }
         requires nothing { (to.old.before ≡ []) × (to.old.last ≡ []) }
         ensures { PumpsOver self.old result self.new (bytes_of to.new) }
@@ -125,7 +129,7 @@ impl End {
 
     /// Updates go into the output, or leave with what waits there, until none may go.
     #[inline(never)]
-    fn pump_all(&mut self, to: &mut Outgoing) -> Result<(), AllocError>
+    fn pump_all(&mut self, to: &mut CircuitOutput) -> Result<(), AllocError>
         requires { IsOpen self.old.link }
         ensures pumps { PumpsEnd (end_behind to.old.before self.old) result
             (end_behind to.new.before self.new) }
@@ -139,7 +143,7 @@ impl End {
     }
 
     /// One update goes into the output, or leaves with what waits there. Says whether one might go.
-    fn pump_one(&mut self, to: &mut Outgoing) -> Result<bool, AllocError>
+    fn pump_one(&mut self, to: &mut CircuitOutput) -> Result<bool, AllocError>
         requires { IsOpen self.old.link }
         ensures pumps { PumpsOne (end_behind to.old.before self.old) result
             (end_behind to.new.before self.new) }
@@ -163,7 +167,7 @@ impl End {
     /// The next update of a queue goes into the output, which is not full, or leaves with what
     /// waits there. Says whether there was one.
     #[inline(never)]
-    fn pump_queued(&mut self, to: &mut Outgoing) -> Result<bool, AllocError>
+    fn pump_queued(&mut self, to: &mut CircuitOutput) -> Result<bool, AllocError>
         requires open { IsOpen self.old.link }
         requires room { length (to.old.before ++ self.old.link.output) < output_limit }
         ensures pumps { PumpsOne (end_behind to.old.before self.old) result
@@ -210,7 +214,7 @@ fn shown_size(wanted: &Wanted, shown: &Update) -> usize
 fn show(
     alloc: Global,
     link: &mut Link,
-    to: &mut Outgoing,
+    to: &mut CircuitOutput,
     wanted: &Wanted,
     shown: &Update,
 ) -> Result<(), AllocError>

@@ -8,7 +8,7 @@ use Rattle.ca_records.specs.Puts.{Record}
 use Rattle.ca_records.specs.Store.{Store}
 use Rattle.ca_model.specs.Server.{Ended, Open, Server, ServerCircuit}
 use Rattle.ca_model.specs.ServerSteps.{Pumps, Update}
-use Rattle.ca_server_circuit.specs.Outgoing.{emptied, emptied_end}
+use Rattle.ca_server_circuit.specs.CircuitOutput.{emptied, emptied_end}
 use Rattle.ca_server_circuit.proofs.Tables.{changed-own}
 use Rattle.ca_server_core.specs.Pumping.{EmptiesIn, HandsOver, PumpsIn, PumpsOverIn}
 use Rattle.ca_server_core.specs.Sound.{IsSound}

@@ -10,7 +10,7 @@ use Rattle.ca_server_circuit.specs.declared.effect.Effect.{Effect}
 use Rattle.ca_server_circuit.specs.declared.step.FollowUp.TheVariants as effect
 use Rattle.ca_server_circuit.specs.declared.step.EndStep.TheVariants as step
 use Rattle.ca_server_circuit.specs.Concerned.{bytes_on}
-use Rattle.ca_server_circuit.specs.Outgoing.{emptied}
+use Rattle.ca_server_circuit.specs.CircuitOutput.{emptied}
 use Rattle.ca_server_circuit.specs.Pumping.{PumpsAt, PumpsOverAt}
 use Rattle.ca_server_core.specs.Serving.{StepsIn}
 

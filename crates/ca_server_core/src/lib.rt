@@ -26,7 +26,7 @@ mod serving;
 mod stepping;
 mod through;
 
-pub use ca_server_circuit::{Effect, EndCause, Outgoing, Piece};
+pub use ca_server_circuit::{CircuitOutput, Effect, EndCause, Piece};
 pub use ca_server_watchers::RecordWatchers;
 pub use server::ServerCore;
 pub use stepping::CoreStep;

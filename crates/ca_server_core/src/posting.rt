@@ -102,7 +102,9 @@ fn post_to_watching(
         return;
     };
     let shared = share_on(circuits, records, circuit, place, before);
-    post_to_this(circuits, records, watchers, place, mask, &shared, before, circuit);
+    post_to_this(
+        circuits, records, watchers, place, mask, &shared, before, circuit,
+    );
     // The last circuit is mostly the only one.
     let mut left = before;
     'posting: while left > 0 {
@@ -150,7 +152,9 @@ fn post_to_one(
     let Some(circuit) = watchers.at(records.at(place).state().name(), watcher) else {
         return;
     };
-    post_to_this(circuits, records, watchers, place, mask, shared, watcher, circuit);
+    post_to_this(
+        circuits, records, watchers, place, mask, shared, watcher, circuit,
+    );
 }
 
 /// A post reaches this circuit, which is at this place of the list. It is taken out if it no

@@ -3,7 +3,7 @@ ghost use Rattle.std.specs.Prelude.{◌≡◌, [], List};
 ghost use Rattle.ca_model.specs.Server.{Server};
 ghost use Rattle.ca_model.specs.ServerSteps.{Pumps, Update};
 ghost use Rattle.ca_records.specs.Store.{records_of};
-ghost use Rattle.ca_server_circuit.specs.Outgoing.{bytes_of};
+ghost use Rattle.ca_server_circuit.specs.CircuitOutput.{bytes_of};
 ghost use Rattle.ca_server_core.specs.Pumping.{HandsOver, PumpsIn, PumpsOverIn};
 ghost use Rattle.ca_server_core.specs.Sound.{IsSound};
 
@@ -12,7 +12,7 @@ use ca_arena::Handle;
 use ca_ids::HeldTable;
 use ca_link::Spares;
 use ca_records::ServedRecords;
-use ca_server_circuit::{Circuit, Outgoing};
+use ca_server_circuit::{Circuit, CircuitOutput};
 
 impl ServerCore {
     /// Puts updates that wait on a circuit after what waits to be sent, until none may go: none is
@@ -31,14 +31,14 @@ impl ServerCore {
         );
     }
 
-    /// Updates that wait on a circuit leave their queues, as by `pump`, and then all bytes leave the
+    /// Updates that wait on a circuit leave their queues, as by `pump`. Then all bytes leave the
     /// circuit, those that wait or that its end left, in place of what is there. Up to this many
-    /// bytes are copied, and more come with their memory; an image that several circuits send is
-    /// not copied. There are none if the circuit is not there.
+    /// are copied, and more come with their memory; an image that several circuits send is not
+    /// copied. There are none if the circuit is not there.
     ///
     /// If there is no memory for the next update, the end of the circuit has ended. A step reports
     /// that.
-    pub fn pump_over(&mut self, circuit: Handle, copied: usize, to: &mut Outgoing)
+    pub fn pump_over(&mut self, circuit: Handle, copied: usize, to: &mut CircuitOutput)
         ensures { (updates : List Update) × ((mid : Server) × Pumps self.old circuit updates mid
             × HandsOver mid circuit (bytes_of to.new) self.new) }
     {
@@ -61,7 +61,7 @@ fn pump_over_on(
     records: &mut ServedRecords,
     circuit: Handle,
     copied: usize,
-    to: &mut Outgoing,
+    to: &mut CircuitOutput,
 )
     requires sound { IsSound (records_of records.old) circuits.old }
     requires nothing { (to.old.before ≡ []) × (to.old.last ≡ []) }

@@ -149,12 +149,7 @@ impl SubscriptionsAtNeed {
     /// says whether one is on the record. Without memory for one all subscriptions stay, and some
     /// have the update, so that the end is to be closed.
     #[inline(always)]
-    pub fn post(
-        &mut self,
-        name: &[u8],
-        mask: u16,
-        posted: &Posted,
-    ) -> Result<bool, AllocError>
+    pub fn post(&mut self, name: &[u8], mask: u16, posted: &Posted) -> Result<bool, AllocError>
         ensures ok { OnOk result (self.new ≡ after_post name.now mask posted.now self.old) }
         ensures on { IfOk result (λ on.
             on ≡ list_any (is_on name.now) self.old.subscriptions) }

@@ -39,11 +39,7 @@ impl<'a> Model for Posted<'a> {
 
 impl<'a> Posted<'a> {
     /// This value, and the copy of it that is shared.
-    pub fn of(
-        value: &'a Value,
-        meta: &'a Meta,
-        shared: &'a Option<Arc<SharedUpdate>>,
-    ) -> Posted<'a>
+    pub fn of(value: &'a Value, meta: &'a Meta, shared: &'a Option<Arc<SharedUpdate>>) -> Posted<'a>
         requires few { count_of (elements value.now) ≤ element_limit }
         requires same { IsCopy (record { value = elements value.now; meta = meta.now })
             (option_map arc_value shared.now) }

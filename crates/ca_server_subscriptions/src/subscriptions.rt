@@ -208,12 +208,7 @@ impl Subscriptions {
     /// says whether one is on the record. Without memory for one all subscriptions stay, and some
     /// have the update, so that the end is to be closed.
     #[inline(always)]
-    pub fn post(
-        &mut self,
-        name: &[u8],
-        mask: u16,
-        posted: &Posted,
-    ) -> Result<bool, AllocError>
+    pub fn post(&mut self, name: &[u8], mask: u16, posted: &Posted) -> Result<bool, AllocError>
         ensures ok { OnOk result (self.new ≡ after_post name.now mask posted.now self.old) }
         ensures on { IfOk result (λ on.
             on ≡ list_any (is_on name.now) self.old.subscriptions) }
@@ -223,8 +218,7 @@ impl Subscriptions {
     {
         if let Some(receiver) = only_at(self.only_one, &self.standing, name) {
             self.next = receiver.place();
-            self.queues
-                .post(slice::from_ref(&receiver), mask, posted)?;
+            self.queues.post(slice::from_ref(&receiver), mask, posted)?;
             return Ok(true);
         }
         self.post_to_each(name, mask, posted)
@@ -232,12 +226,7 @@ impl Subscriptions {
 
     // A post to the record of this name, by the line of the record.
     #[inline(never)]
-    fn post_to_each(
-        &mut self,
-        name: &[u8],
-        mask: u16,
-        posted: &Posted,
-    ) -> Result<bool, AllocError>
+    fn post_to_each(&mut self, name: &[u8], mask: u16, posted: &Posted) -> Result<bool, AllocError>
         ensures ok { OnOk result (self.new ≡ after_post name.now mask posted.now self.old) }
         ensures on { IfOk result (λ on.
             on ≡ list_any (is_on name.now) self.old.subscriptions) }

@@ -413,12 +413,7 @@ fn left_of(alloc: Global, core: &mut ServerCore, circuit: Handle) -> Pipe
 
 // The number of the circuit that is open at this server under this handle, by the server's
 // numbers.
-fn served_on(
-    numbers: &[usize],
-    circuits: &[Joined],
-    server: usize,
-    handle: Handle,
-) -> Option<usize>
+fn served_on(numbers: &[usize], circuits: &[Joined], server: usize, handle: Handle) -> Option<usize>
     requires { AreServed numbers.now (map joined_of circuits.now) server }
     ensures { MatchOption result (IsUnserved (map joined_of circuits.now) server handle)
         (IsServed (map joined_of circuits.now) server handle) }

@@ -1,6 +1,6 @@
 use Rattle.std.proofs.Common.{◌∙◌, sym}
 use Rattle.ca_wire.specs.Messages.{scalar}
-use Rattle.ca_server_circuit.specs.Outgoing.{addressed}
+use Rattle.ca_server_circuit.specs.CircuitOutput.{addressed}
 use Rattle.ca_server_circuit.specs.Pumping.{scalar_update}
 use Rattle.ca_server_circuit.proofs.Leaving.{err-both, grows-by, grows-same, ok-both, sends-behind, shares-behind, shows-shared}
 use Rattle.ca_server_circuit.proofs.Replying.{in-err, ok-then}

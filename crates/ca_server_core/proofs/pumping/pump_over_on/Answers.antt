@@ -1,6 +1,6 @@
 use Rattle.std.proofs.Common.{inl, refl, subst, sym}
 use Rattle.ca_model.specs.Server.{ServerCircuit}
-use Rattle.ca_server_circuit.specs.Outgoing.{bytes_of}
+use Rattle.ca_server_circuit.specs.CircuitOutput.{bytes_of}
 use Rattle.ca_server_circuit.specs.Pumping.{PumpsOverAt}
 use Rattle.ca_server_core.proofs.pumping.pump_over_on.Goals as goal
 

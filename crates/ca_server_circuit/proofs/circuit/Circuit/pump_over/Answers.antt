@@ -4,7 +4,7 @@ use Rattle.ca_model.specs.Server.{ServerCircuit, ServerEnd}
 use Rattle.ca_model.specs.Server as server
 use Rattle.ca_server_circuit.specs.declared.circuit.CircuitState.{CircuitState}
 use Rattle.ca_server_circuit.specs.Circuits.{circuit_of}
-use Rattle.ca_server_circuit.specs.Outgoing.{bytes_of}
+use Rattle.ca_server_circuit.specs.CircuitOutput.{bytes_of}
 use Rattle.ca_server_circuit.specs.Pumping.{PumpsOverAt}
 use Rattle.ca_server_circuit.specs.Stepping.{why_is}
 use Rattle.ca_server_circuit.specs.Subscribing.{events_of}

@@ -1,5 +1,5 @@
 use Rattle.std.proofs.Common.{[], refl}
-use Rattle.ca_server_circuit.specs.Outgoing.{end_behind}
+use Rattle.ca_server_circuit.specs.CircuitOutput.{end_behind}
 use Rattle.ca_server_circuit.proofs.Leaving.{grows-same, grows-then}
 use Rattle.ca_server_circuit.proofs.Pumps.{pumped-less, pumped-more, pumped-none}
 use Rattle.ca_server_circuit.proofs.end.End.pump_all.Goals as goal

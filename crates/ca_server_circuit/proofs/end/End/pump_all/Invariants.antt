@@ -3,7 +3,7 @@ use Rattle.std.specs.List.{FoldsTo}
 use Rattle.ca_text.specs.Limits.{output_limit}
 use Rattle.ca_link.specs.Calls.{IsOpen}
 use Rattle.ca_model.specs.ServerSteps.{Leaves, Rests, Update}
-use Rattle.ca_server_circuit.specs.Outgoing.{Grows, end_behind}
+use Rattle.ca_server_circuit.specs.CircuitOutput.{Grows, end_behind}
 use Rattle.ca_server_circuit.proofs.end.End.pump_all.Given as goal
 
 abbrev pub invariant-pumping : goal.invariant-pumping

@@ -2,7 +2,7 @@ use Rattle.std.proofs.Common.{◌++◌, ◌∙◌, ap, length, sym}
 use Rattle.std.proofs.lemmas.Bool.{leb-false, leb-true}
 use Rattle.ca_text.specs.Limits.{output_limit}
 use Rattle.ca_model.specs.Server.{ServerEnd}
-use Rattle.ca_server_circuit.specs.Outgoing.{behind, end_behind}
+use Rattle.ca_server_circuit.specs.CircuitOutput.{behind, end_behind}
 use Rattle.ca_server_circuit.proofs.Leaving.{full-one, grows-same, stays-behind}
 use Rattle.ca_server_circuit.proofs.Pumps.{idle-one, lacks-first, leaves-first}
 use Rattle.ca_server_circuit.proofs.end.End.pump_one.Goals as goal

@@ -1,6 +1,6 @@
 use Rattle.std.proofs.Common.{refl, subst, sym}
 use Rattle.ca_model.specs.Server.{ServerEnd}
-use Rattle.ca_server_circuit.specs.Outgoing.{end_behind}
+use Rattle.ca_server_circuit.specs.CircuitOutput.{end_behind}
 use Rattle.ca_server_circuit.specs.Pumping.{PumpsEnd}
 use Rattle.ca_server_circuit.proofs.Leaving.{pumps-over}
 use Rattle.ca_server_circuit.proofs.end.End.pump_over.Goals as goal

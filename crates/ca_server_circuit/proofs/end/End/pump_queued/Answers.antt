@@ -2,7 +2,7 @@ use Rattle.std.proofs.Common.{◌≡◌, ◌<◌, ◌++◌, List, Option, ap, le
 use Rattle.ca_text.specs.Limits.{output_limit}
 use Rattle.ca_model.specs.Server.{ServerEnd}
 use Rattle.ca_model.specs.Speech.{Stored}
-use Rattle.ca_server_circuit.specs.Outgoing.{behind, end_behind}
+use Rattle.ca_server_circuit.specs.CircuitOutput.{behind, end_behind}
 use Rattle.ca_server_circuit.proofs.Leaving.{stays-behind}
 use Rattle.ca_server_circuit.proofs.Pumps.{lacks-any, lacks-one, leaves-one}
 use Rattle.ca_server_subscriptions.specs.Pumping.{GivesUpdate}

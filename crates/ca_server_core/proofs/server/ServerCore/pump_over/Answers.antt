@@ -1,6 +1,6 @@
 use Rattle.std.proofs.Common.{ap}
 use Rattle.ca_records.specs.Store.{records_of}
-use Rattle.ca_server_circuit.specs.Outgoing.{OutgoingState, bytes_of}
+use Rattle.ca_server_circuit.specs.CircuitOutput.{OutputState, bytes_of}
 use Rattle.ca_server_core.proofs.Covered.{covers-thinned}
 use Rattle.ca_server_core.proofs.Emptied.{pumped-over, pumps-over-at, sound-emptied, thins-emptied}
 use Rattle.ca_server_core.proofs.Led.{led-thinned}
@@ -10,7 +10,7 @@ use Rattle.ca_server_core.proofs.Thinned.{thins-pumped}
 use Rattle.ca_server_core.proofs.server.ServerCore.pump_over.Goals as goal
 
 pub pump_over_on-requires-clause-nothing : goal.pump_over_on-requires-clause-nothing
-pump_over_on-requires-clause-nothing c = (ap (λ (o : OutgoingState). o.before) c.clear.ensures, ap (λ (o : OutgoingState). o.last) c.clear.ensures)
+pump_over_on-requires-clause-nothing c = (ap (λ (o : OutputState). o.before) c.clear.ensures, ap (λ (o : OutputState). o.last) c.clear.ensures)
 
 pub invariant_of-self : goal.invariant_of-self
 invariant_of-self c =

@@ -8,9 +8,9 @@ use Rattle.ca_wire.specs.Message.{header_of, spelling}
 use Rattle.std.proofs.lemmas.List.{length-append}
 use Rattle.ca_wire.proofs.Headers.{length-header_spelling}
 use Rattle.ca_server_subscriptions.specs.Sharing.{Shared}
-use Rattle.ca_server_circuit.specs.Outgoing.{OutgoingState, addressed}
+use Rattle.ca_server_circuit.specs.CircuitOutput.{OutputState, addressed}
 use Rattle.ca_server_circuit.proofs.Leaving.{joined-length, joined-more, piece-is}
-use Rattle.ca_server_circuit.proofs.outgoing.Outgoing.share.Goals as goal
+use Rattle.ca_server_circuit.proofs.circuit_output.CircuitOutput.share.Goals as goal
 
 -- the header that was written
 header-is : (c : goal.After-push_reserved) → c.spell_header.new.out.items ≡ header_spelling (header_of (addressed c.args.id (arc_value c.args.shared.now).update))
@@ -39,7 +39,7 @@ invariant_of-self-2 c =
     let counted = c.len.ensures in
     let image = ap length (c.payload.ensures ∙ ap (λ (m : Fields). m.payload) (c.update-2.ensures.is ∙ ap (λ (s : Shared). s.update) c.deref-2.ensures)) in
     let room = c.requires.room in
-    let before = ap (λ (o : OutgoingState). length (o.before ++ c.args.link.now.output)) c.self.view_is in
+    let before = ap (λ (o : OutputState). length (o.before ++ c.args.link.now.output)) c.self.view_is in
     let whole = length-append (flat_map (λ (x : List ℕ). x) ps) c.args.link.now.output in
     let waited = ap length c.hand_over.ensures.handed in
     let same = ap length (header-is c) in
@@ -55,9 +55,9 @@ pub returns-clause-ok : goal.returns-clause-ok
 returns-clause-ok c =
     let m = addressed c.args.id (arc_value c.args.shared.now).update in
     let p = piece-is c.hand_over.new.to c.args.link.now.output c.spell_header.new.out.items (arc_value c.in_ok-shared.shared).update.payload m c.hand_over.ensures.handed (header-is c) (ap (λ (s : Shared). s.update.payload) c.in_ok-shared.ensures) in
-    ap (λ (before : List ℕ). let o : OutgoingState = record { before = before; last = c.self.inside.last; shares = c.self.inside.shares } in o) (
-      ap (λ (xs : List (List ℕ)). flat_map (λ (x : List ℕ). x) xs) (now c)
-      ∙ joined-more c.self.inside.pieces.items _
-      ∙ ap (λ (x : List ℕ). flat_map (λ (y : List ℕ). y) c.self.inside.pieces.items ++ x) p
+    ap (λ (before : List ℕ). let o : OutputState = record { before = before; last = c.self.inside.last; shares = c.self.inside.shares } in o) (
+    ap (λ (xs : List (List ℕ)). flat_map (λ (x : List ℕ). x) xs) (now c)
+    ∙ joined-more c.self.inside.pieces.items _
+    ∙ ap (λ (x : List ℕ). flat_map (λ (y : List ℕ). y) c.self.inside.pieces.items ++ x) p
     )
-    ∙ ap (λ (o : OutgoingState). let n : OutgoingState = record o { before = o.before ++ (c.args.link.now.output ++ spelling m) } in n) c.self.view_is
+    ∙ ap (λ (o : OutputState). let n : OutputState = record o { before = o.before ++ (c.args.link.now.output ++ spelling m) } in n) c.self.view_is

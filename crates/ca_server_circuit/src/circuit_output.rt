@@ -6,7 +6,7 @@ ghost use Rattle.ca_text.specs.Limits.{output_limit};
 ghost use Rattle.ca_link.specs.Link.{with_handed};
 ghost use Rattle.ca_wire.specs.Message.{spelling};
 ghost use Rattle.ca_server_subscriptions.specs.Sharing.{IsUpdateOf};
-ghost use Rattle.ca_server_circuit.specs.Outgoing.{addressed, bytes_of};
+ghost use Rattle.ca_server_circuit.specs.CircuitOutput.{addressed, bytes_of};
 
 use ca_link::Link;
 use ca_server_subscriptions::{SharedUpdate, Update};
@@ -51,7 +51,7 @@ impl Piece {
 
 /// All bytes that leave a circuit at once: pieces, and whole messages after the last of them.
 #[derive(Drop)]
-pub struct Outgoing {
+pub struct CircuitOutput {
     pieces: Vec<Piece>,
     // How many bytes the pieces have.
     size: usize,
@@ -60,10 +60,10 @@ pub struct Outgoing {
     shares: bool,
 }
 
-impl Model for Outgoing {
-    ghost use Rattle.ca_server_circuit.specs.Outgoing.{OutgoingState};
+impl Model for CircuitOutput {
+    ghost use Rattle.ca_server_circuit.specs.CircuitOutput.{OutputState};
 
-    ghost Value = { OutgoingState };
+    ghost Value = { OutputState };
 
     ghost use Rattle.std.specs.Prelude.{◌≡◌, ◌<◌, length};
     ghost use Rattle.std.specs.List.{flat_map};
@@ -76,19 +76,19 @@ impl Model for Outgoing {
         × (o.size < 20000000) };
 }
 
-impl Outgoing {
+impl CircuitOutput {
     /// No bytes.
-    pub fn new(alloc: Global) -> Outgoing
+    pub fn new(alloc: Global) -> CircuitOutput
         ensures { result ≡ record { before = []; last = []; shares = true } }
     {
-        Outgoing::sharing(alloc, true)
+        CircuitOutput::sharing(alloc, true)
     }
 
     /// No bytes, and images are shared or not.
-    pub(crate) fn sharing(alloc: Global, shares: bool) -> Outgoing
+    pub(crate) fn sharing(alloc: Global, shares: bool) -> CircuitOutput
         ensures { result ≡ record { before = []; last = []; shares = shares } }
     {
-        Outgoing {
+        CircuitOutput {
             pieces: Vec::new(alloc),
             size: 0,
             last: Pipe::new(alloc),
@@ -172,8 +172,10 @@ impl Outgoing {
         shared: &Arc<SharedUpdate>,
     ) -> Result<(), AllocError>
         requires room { length (self.old.before ++ link.old.output) < output_limit }
-        ensures ok { OnOk result (self.new ≡ record self.old { before = self.old.before
-            ++ (link.old.output ++ spelling (addressed id (arc_value shared.now).update)) }) }
+        ensures ok { OnOk result (self.new ≡ record self.old {
+          before = self.old.before
+              ++ (link.old.output ++ spelling (addressed id (arc_value shared.now).update));
+        }) }
         ensures link { OnOk result (link.new
             ≡ with_handed (length link.old.output) link.old) }
         ensures err { OnErr result (self.new ≡ self.old) }

@@ -7,13 +7,13 @@ use Rattle.ca_model.specs.Server as server
 
 -- The bytes up to the last image that is shared, and those after it; and whether images are shared
 -- at all.
-pub record OutgoingState : Type 0 where
+pub record OutputState : Type 0 where
   pub before : List ℕ
   pub last : List ℕ
   pub shares : Bool
 
 -- all bytes that leave
-abbrev pub bytes_of : OutgoingState → List ℕ
+abbrev pub bytes_of : OutputState → List ℕ
 bytes_of o = o.before ++ o.last
 
 -- a link whose output has these bytes before its own
@@ -24,13 +24,13 @@ abbrev pub end_behind : List ℕ → ServerEnd → ServerEnd
 end_behind before e = record e { link = behind before e.link }
 
 -- More may have left before the last bytes; but not if no images are shared.
-pub record Grows (old new : OutgoingState) : Type 0 where
+pub record Grows (old new : OutputState) : Type 0 where
   pub last : new.last ≡ old.last
   pub shares : new.shares ≡ old.shares
   pub whole : old.shares ≡ false → new.before ≡ old.before
 
 -- the message waits after all that has left, or waits on the link
-abbrev pub SendsBehind : Fields → OutgoingState → LinkState → OutgoingState → LinkState → Type 0
+abbrev pub SendsBehind : Fields → OutputState → LinkState → OutputState → LinkState → Type 0
 SendsBehind m old l new k =
     behind new.before k ≡ with_sent (m ∷ []) (behind old.before l)
 
