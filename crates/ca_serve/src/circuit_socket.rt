@@ -309,6 +309,8 @@ impl Own {
                 self.events.is_empty()
             }
             Err(_) => {
+                // Whether bytes are there only a read can tell.
+                self.is_drained = false;
                 thread::sleep(rt, Duration::from_millis(PAUSE));
                 false
             }
