@@ -32,14 +32,8 @@ fn doubles_with_exponents(rt: HostRuntime) -> Result<(), Fail> {
         (0x4023_ffff_fffb_b47d, 9, b" 9.999999999e+00"),
         (0x4023_ffff_fffb_9e80, 9, b" 9.999999999e+00"),
         (0x41cd_cd64_fff9_999a, 9, b" 1.000000000e+09"),
-        (0x7ff0_0000_0000_0000, 17, b"                     inf"),
-        (0xfff0_0000_0000_0000, 9, b"            -inf"),
         (0x3ff0_0000_0022_5c18, 9, b" 1.000000001e+00"),
         (0x3e19_c511_dc3a_41df, 9, b" 1.500000000e-09"),
-        (0x7ff8_0000_0000_0000, 9, b"             nan"),
-        (0xfff8_0000_0000_0000, 9, b"            -nan"),
-        (0x7ff0_0000_0000_0001, 9, b"             nan"),
-        (0xffff_ffff_ffff_ffff, 9, b"            -nan"),
         (0x3ff0_0400_0000_0000, 9, b" 1.000976562e+00"),
         (0x3ff0_0c00_0000_0000, 9, b" 1.002929688e+00"),
         (0x3e70_0000_0000_0000, 9, b" 5.960464478e-08"),
@@ -85,14 +79,7 @@ fn doubles_from_far(rt: HostRuntime) -> Result<(), Fail> {
         (0x42dc_1221_8377_de6b, 2, b"123456789012345.67"),
         (0x4330_0000_0000_0002, 0, b"4503599627370498"),
         (0x4330_0000_0000_0002, 1, b"4503599627370498.0"),
-        (0x7ff0_0000_0000_0000, 0, b"    inf"),
-        (0x7ff0_0000_0000_0000, 8, b"            inf"),
-        (0xfff0_0000_0000_0000, 0, b"   -inf"),
         (0x7e37_e43c_8800_759c, 5, b"1.00000e+300"),
-        (0x7ff8_0000_0000_0000, 0, b"nan"),
-        (0xfff8_0000_0000_0000, 0, b"-nan"),
-        (0x7ff0_0000_0000_0001, 0, b"nan"),
-        (0xffff_ffff_ffff_ffff, 0, b"-nan"),
     ] {
         let value = Value::Doubles(vec![in alloc; bits]?);
         assert!(rt; has_text(alloc, &value, precision, bytes)?);
@@ -132,13 +119,54 @@ fn floats_as_printed(rt: HostRuntime) -> Result<(), Fail> {
         (0x3dcc_cccd, 12, b"1.000000014901e-01"),
         (0x51ba_43b7, 0, b" 1e+11"),
         (0x51ba_43b7, 3, b"1.000e+11"),
-        (0xff80_0000, 0, b"  -inf"),
-        (0xff80_0000, 12, b"              -inf"),
-        (0x7f80_0000, 3, b"      inf"),
-        (0x7f80_0000, 9, b"            inf"),
         (0x4b80_0000, 2, b"16777216.00"),
         (0x4ceb_79a3, 8, b"1.23456792e+08"),
         (0x4ceb_79a3, 5, b"1.23457e+08"),
+    ] {
+        let value = Value::Floats(vec![in alloc; bits]?);
+        assert!(rt; has_text(alloc, &value, precision, bytes)?);
+    }
+    Ok(())
+}
+
+// A DOUBLE that is infinite, or no number, has its sign.
+#[test]
+fn doubles_that_are_no_numbers(rt: HostRuntime) -> Result<(), Fail> {
+    let alloc = rt.alloc();
+    for (bits, precision, bytes) in [
+        (
+            0x7ff0_0000_0000_0000,
+            17,
+            b"                     inf".as_slice(),
+        ),
+        (0xfff0_0000_0000_0000, 9, b"            -inf"),
+        (0x7ff8_0000_0000_0000, 9, b"             nan"),
+        (0xfff8_0000_0000_0000, 9, b"            -nan"),
+        (0x7ff0_0000_0000_0001, 9, b"             nan"),
+        (0xffff_ffff_ffff_ffff, 9, b"            -nan"),
+        (0x7ff0_0000_0000_0000, 0, b"    inf"),
+        (0x7ff0_0000_0000_0000, 8, b"            inf"),
+        (0xfff0_0000_0000_0000, 0, b"   -inf"),
+        (0x7ff8_0000_0000_0000, 0, b"nan"),
+        (0xfff8_0000_0000_0000, 0, b"-nan"),
+        (0x7ff0_0000_0000_0001, 0, b"nan"),
+        (0xffff_ffff_ffff_ffff, 0, b"-nan"),
+    ] {
+        let value = Value::Doubles(vec![in alloc; bits]?);
+        assert!(rt; has_text(alloc, &value, precision, bytes)?);
+    }
+    Ok(())
+}
+
+// So has a FLOAT.
+#[test]
+fn floats_that_are_no_numbers(rt: HostRuntime) -> Result<(), Fail> {
+    let alloc = rt.alloc();
+    for (bits, precision, bytes) in [
+        (0xff80_0000, 0, b"  -inf".as_slice()),
+        (0xff80_0000, 12, b"              -inf"),
+        (0x7f80_0000, 3, b"      inf"),
+        (0x7f80_0000, 9, b"            inf"),
         (0x7fc0_0000, 2, b"nan"),
         (0x7fc0_0000, 9, b"            nan"),
         (0xffc0_0000, 2, b"-nan"),
