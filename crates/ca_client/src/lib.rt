@@ -12,7 +12,6 @@ mod state;
 mod stepping;
 mod ticking;
 mod turning;
-mod wire;
 
 pub use answer::{Answer, Steps};
 pub use ask::{CoreCall, RequestCall};
@@ -23,4 +22,3 @@ pub use socket::{Moved, Socket};
 pub use state::ClientState;
 pub use stepping::step_under_lock;
 pub use turning::turn_over;
-pub use wire::Wire;

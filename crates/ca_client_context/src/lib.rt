@@ -41,6 +41,7 @@ mod links;
 mod listener;
 mod shared;
 mod spread;
+mod wire;
 
 pub use context::{Context, Setting, Waited};
 pub use engine::{Engine, Work, start};

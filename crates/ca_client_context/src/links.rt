@@ -4,10 +4,9 @@ ghost use Rattle.std.specs.Prelude.{◌<◌};
 ghost use Rattle.std.specs.Vec.{vec_capacity, vec_len};
 
 use crate::addresses::to_system;
+use crate::wire::Wire;
 use ca_arena::Handle;
-use ca_client::{
-    Answer, ClientState, CoreCall, Moved, Socket, Wire, step_all, step_under_lock, turn_over,
-};
+use ca_client::{Answer, ClientState, CoreCall, Socket, step_all, step_under_lock, turn_over};
 use ca_client_core::{Notice, Notices, WantedCircuit};
 use mio::net::TcpStream;
 use mio::{Interest, Registry, Token};
@@ -30,65 +29,7 @@ const CIRCUITS: Token = Token(2);
 #[derive(Drop)]
 pub(crate) struct ConnectedCircuit {
     pub(crate) circuit: Handle,
-    wire: Watched<Wire>,
-}
-
-// A circuit's socket, and what its last calls showed.
-#[derive(Drop)]
-struct Watched<S: Socket + Drop> {
-    inner: S,
-    // Something was read in this turn.
-    came: bool,
-    // Nothing more is read in this turn: the last read left nothing, or a caller sends.
-    //
-    // What came is handled before the next read, which may find that the server
-    // has closed the circuit.
-    drained: bool,
-    // The last write left something, and the system may have room for it.
-    behind: bool,
-    // The system had no room for the last write: it tells once there is some.
-    full: bool,
-}
-
-impl<S: Socket + Drop> Socket for Watched<S> {
-    ghost use Rattle.std.specs.Prelude.{◌≡◌, ◌⊎◌, []};
-
-    // The inner socket's bytes, or none if it is not read.
-    ghost gives = { λ v bytes w.
-        S.gives v.inner bytes w.inner ⊎ ((bytes ≡ []) × (w.inner ≡ v.inner)) };
-
-    ghost takes = { λ v bytes w. S.takes v.inner bytes w.inner };
-
-    ghost fault_count = { λ w. S.fault_count w.inner };
-
-    fn read(&mut self, buffer: &mut [u8]) -> Moved {
-        if self.drained {
-            return Moved::Later;
-        }
-        let moved = self.inner.read(buffer);
-        self.drained = match moved {
-            Moved::Count(count) => {
-                self.came = true;
-                count < buffer.len()
-            }
-            _ => true,
-        };
-        moved
-    }
-
-    fn write(&mut self, bytes: &[u8]) -> Moved {
-        let moved = self.inner.write(bytes);
-        self.behind = match moved {
-            Moved::Count(count) => count < bytes.len(),
-            _ => false,
-        };
-        self.full = matches!(moved, Moved::Later);
-        moved
-    }
-
-    fn faults(&self) -> u64 {
-        self.inner.faults()
-    }
+    wire: Wire,
 }
 
 // When each circuit was last tried, at the index of its handle: that of a name server is wanted
@@ -175,13 +116,7 @@ fn reach<R: Net>(rt: &R, registry: &Registry, wanted: WantedCircuit) -> Option<C
     };
     Some(ConnectedCircuit {
         circuit: wanted.circuit,
-        wire: Watched {
-            inner: Wire::new(stream),
-            came: false,
-            drained: true,
-            behind: false,
-            full: false,
-        },
+        wire: Wire::new(stream),
     })
 }
 
