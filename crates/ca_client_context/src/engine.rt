@@ -1,7 +1,7 @@
 //! The thread of input and output. Begin at `run` of `Engine`: it waits, takes one turn under the
 //! lock (`work`), and then calls the listeners with the lock released.
 use crate::addresses::{from_system, to_system};
-use crate::lead::{TURN, wait_at};
+use crate::lead::{EventPoll, TURN};
 use crate::links::{Brought, ListenerNotices, Tries, close_all, connect, forget, keep};
 use crate::listener::{Listener, SubscribedListeners};
 use crate::shared::{LockedClient, SharedClient, WaitPlace};
@@ -9,9 +9,8 @@ use ca_client::{Answer, ClientState, CoreCall, step_under_lock};
 use ca_client_core::{Notice, Ticked};
 use ca_dbr::Outcome;
 use ca_text::Refusal;
+use mio::Registry;
 use mio::net::UdpSocket;
-use mio::{Events, Poll, Registry};
-use std::alloc::Global;
 use std::mem::swap;
 use std::net::Net;
 use std::sync::{Arc, Wait};
@@ -58,8 +57,7 @@ pub struct Engine<N: Net + Drop, L: Listener> {
     // What waits for the sockets.
     pub(crate) registry: Registry,
     // What waits to be called, while callers wait for the sockets.
-    pub(crate) call_poll: Poll,
-    pub(crate) events: Events<Global>,
+    pub(crate) call: EventPoll,
     pub(crate) datagrams: UdpSocket,
     pub(crate) tries: Tries,
     pub(crate) listeners: SubscribedListeners<L>,
@@ -131,7 +129,7 @@ impl<N: Net + Drop, L: Listener> Engine<N, L> {
         match place {
             WaitPlace::Nowhere => {}
             WaitPlace::Sockets => self.shared.watch(rt, most),
-            WaitPlace::Call => wait_at(rt, &mut self.call_poll, &mut self.events, most),
+            WaitPlace::Call => self.call.watch(rt, most),
         }
         self.shared.rise();
     }

@@ -1,7 +1,8 @@
 //! What callers and the thread of input and output share: what is under the lock, and the atomic
 //! words by which they wake each other without it. That no wake is lost depends on the order of
 //! writes and reads: see the comments of `doze`, `park`, `pass` and `leave`.
-use crate::lead::{LATELY, Lead, SocketPoll};
+use crate::context::Setting;
+use crate::lead::{EventPoll, LATELY, Lead};
 use crate::links::{Brought, ConnectedCircuit, ListenerNotices, is_any_full, serve};
 use crate::listener::{Change, Listener};
 use crate::spread::Spread;
@@ -10,7 +11,7 @@ use ca_client::{ClientState, RequestCall, issue_under_lock};
 use ca_dbr::Value;
 use ca_text::Refusal;
 use mio::Waker;
-use std::alloc::{AllocError, Global};
+use std::alloc::Global;
 use std::sync::atomic::{AtomicU64, Ordering};
 use std::sync::{Mutex, MutexGuard, Wait};
 use std::time::{Clock, Duration};
@@ -75,11 +76,20 @@ pub(crate) struct LockedClient<L: Listener> {
 }
 
 impl<L: Listener> LockedClient<L> {
-    pub(crate) fn new(alloc: Global, state: ClientState) -> Result<LockedClient<L>, AllocError> {
+    pub(crate) fn new(alloc: Global, setting: Setting) -> Result<LockedClient<L>, Refusal> {
+        let Setting {
+            user,
+            host,
+            servers,
+            names,
+            ..
+        } = setting;
+        let spread = Spread::new(alloc)?;
+        let state = ClientState::new(alloc, user, host, servers, &names, 0)?;
         Ok(LockedClient {
             state,
             links: Vec::new(alloc),
-            spread: Spread::new(alloc)?,
+            spread,
             told: Vec::new(alloc),
             changes: Vec::new(alloc),
             unsent: 0,
@@ -89,10 +99,12 @@ impl<L: Listener> LockedClient<L> {
         })
     }
 
-    // A request was made. It says whether there is nothing more to be done for it now.
-    pub(crate) fn note(&mut self) -> bool {
+    // Makes a request: its ticket, and whether there is nothing more to be done for it now.
+    pub(crate) fn issue(&mut self, request: &RequestCall) -> Result<(Ticket, bool), Refusal> {
+        let (_, ticket) = issue_under_lock(&mut self.state, request)?;
         self.unsent = self.unsent.saturating_add(1);
-        self.unsent < TOGETHER || self.send()
+        let all = self.unsent < TOGETHER || self.send();
+        Ok((ticket, all))
     }
 
     // Makes requests, until one is refused. It says what came of them, and whether there is nothing
@@ -123,9 +135,9 @@ impl<L: Listener> LockedClient<L> {
         if let Some(room) = rooms.pop() {
             self.state.recycle(room);
         }
-        let (_, ticket) = issue_under_lock(&mut self.state, request)?;
+        let (ticket, all) = self.issue(request)?;
         tickets.push_reserved(ticket);
-        Ok(self.note())
+        Ok(all)
     }
 
     // Whether the thread of input and output is to be told of the request that was made.
@@ -172,7 +184,7 @@ pub(crate) struct SharedClient<L: Listener> {
     pub(crate) locked: Mutex<LockedClient<L>>,
     // Whoever waits for the sockets has it. What lies under the other lock says who that is, so
     // nobody waits for this one for long.
-    sockets: Mutex<SocketPoll>,
+    sockets: Mutex<EventPoll>,
     // Ends a wait for the sockets.
     sockets_waker: Waker,
     // Ends the wait of the thread of input and output while callers wait for the sockets.
@@ -197,7 +209,7 @@ pub(crate) struct SharedClient<L: Listener> {
 impl<L: Listener> SharedClient<L> {
     pub(crate) fn new(
         locked: LockedClient<L>,
-        sockets: SocketPoll,
+        sockets: EventPoll,
         sockets_waker: Waker,
         thread_waker: Waker,
     ) -> SharedClient<L> {
