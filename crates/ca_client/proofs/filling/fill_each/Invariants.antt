@@ -1,6 +1,6 @@
 use Rattle.std.proofs.Common.{◌≡◌}
 use Rattle.ca_client.specs.Draining.{Draining}
-use Rattle.ca_client.proofs.ticking.fill_each.Given as goal
+use Rattle.ca_client.proofs.filling.fill_each.Given as goal
 
 abbrev pub invariant-loop-index : goal.invariant-loop-index
 invariant-loop-index l = record {

@@ -9,7 +9,7 @@ use Rattle.ca_client.specs.Awaited.{StateView}
 use Rattle.ca_client.specs.Calls.{HasSteppedUnderLock}
 use Rattle.ca_client.proofs.Settled.{Stands, due-told, state-told}
 use Rattle.ca_client.proofs.Ticked.{stands-ticked}
-use Rattle.ca_client.proofs.ticking.tick.Goals as goal
+use Rattle.ca_client.proofs.stepping.tick.Goals as goal
 
 pub fill_each-requires-clause-due : goal.fill_each-requires-clause-due
 fill_each-requires-clause-due c =

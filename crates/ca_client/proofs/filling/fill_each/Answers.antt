@@ -1,6 +1,6 @@
 use Rattle.std.proofs.Common.{◌≡◌, ◌<◌, ◌≤◌, length, arith}
 use Rattle.ca_client.proofs.Drained.{draining-due, draining-end, draining-length, draining-next, draining-start}
-use Rattle.ca_client.proofs.ticking.fill_each.Goals as goal
+use Rattle.ca_client.proofs.filling.fill_each.Goals as goal
 
 pub loop-index-init : goal.loop-index-init
 loop-index-init c = record { draining = draining-start c.args.tickets.now.items c.args.seat.now c.args.closings.now.items c.requires.due; same = c.requires.board }

@@ -4,7 +4,7 @@ use Rattle.ca_client.specs.Awaited.{StateView}
 use Rattle.ca_client.specs.Calls.{HasSteppedUnderLock}
 use Rattle.ca_client.specs.declared.ask.CoreCall.TheVariants as ask
 use Rattle.ca_client.specs.Replies.{Replies}
-use Rattle.ca_client.proofs.replying.step_all.Goals as goal
+use Rattle.ca_client.proofs.stepping.step_all.Goals as goal
 
 pub loop-replies-preserved : goal.loop-replies-preserved
 loop-replies-preserved c =
