@@ -8,9 +8,8 @@ ghost use Rattle.ca_client_tables.specs.Closings.{why_is};
 use crate::client::ClientCore;
 use crate::closing::Closing;
 use crate::notices::Notices;
-use crate::searches::end_channels;
 use ca_arena::Handle;
-use ca_client_tables::{Why, let_go, list_live, take_live};
+use ca_client_tables::{Why, end_channels, let_go, list_live, take_live};
 use ca_wire::Pipe;
 
 impl ClientCore {

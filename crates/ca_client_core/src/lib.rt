@@ -38,7 +38,6 @@ mod reading;
 mod receiving;
 mod reply;
 mod search;
-mod searches;
 mod server_disconnect;
 mod silences;
 mod stepping;

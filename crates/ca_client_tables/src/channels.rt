@@ -22,12 +22,11 @@ ghost use Rattle.ca_client_tables.specs.Sound.{IsClient};
 use crate::candidates::Candidates;
 use crate::channel::{Channel, Phase, Standing};
 use crate::ending::{let_cleared_go, search_again};
+use crate::searches::Searches;
 use ca_arena::Handle;
 use ca_ids::{HeldTable, WireId};
 use ca_lists::IndexLists;
-use ca_search::Place;
 use ca_text::Refusal;
-use indexmap::IndexMap;
 use std::alloc::Global;
 use std::marker::Model;
 
@@ -263,12 +262,7 @@ pub(crate) fn put(table: &mut HeldTable<Channel>, handle: Handle, standing: Stan
 
 /// The channels of a circuit that has ended: those that were cleared are gone, the others
 /// are searched for again.
-pub fn end_channels(
-    channels: &mut Channels,
-    searches: &mut IndexMap<u32, Place>,
-    circuit: Handle,
-    moment: u64,
-)
+pub fn end_channels(channels: &mut Channels, searches: &mut Searches, circuit: Handle, moment: u64)
     requires { IsClient channels.old searches.old.entries }
     ensures steps { EndsAll
         circuit

@@ -1,9 +1,9 @@
 use Rattle.std.proofs.Common.{◌≡◌, ◌∙◌, ap, is_some, subst, sym}
 use Rattle.ca_search.specs.Searcher.{without}
 use Rattle.ca_search.proofs.Entries.{held, one-removed}
-use Rattle.ca_client_core.specs.Quiet.{AreQuiet, Kept}
-use Rattle.ca_client_core.proofs.Quieted.{quiet-without}
-use Rattle.ca_client_core.proofs.searches.Searches.remove.Goals as goal
+use Rattle.ca_client_tables.specs.Quiet.{AreQuiet, Kept}
+use Rattle.ca_client_tables.proofs.Quieted.{quiet-without}
+use Rattle.ca_client_tables.proofs.searches.Searches.remove.Goals as goal
 
 pub invariant_of-self : goal.invariant_of-self
 invariant_of-self c =

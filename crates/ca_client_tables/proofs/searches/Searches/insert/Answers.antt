@@ -2,9 +2,9 @@ use Rattle.std.proofs.Common.{◌≡◌, ◌++◌, ◌∷◌, ◌∙◌, [], ap,
 use Rattle.indexmap.proofs.CallerLemmas.{insert_entry-new}
 use Rattle.ca_search.specs.Searcher.{holds}
 use Rattle.ca_search.proofs.Entries.{not-held}
-use Rattle.ca_client_core.specs.Quiet.{Kept}
-use Rattle.ca_client_core.proofs.Quieted.{quiet-zero}
-use Rattle.ca_client_core.proofs.searches.Searches.insert.Goals as goal
+use Rattle.ca_client_tables.specs.Quiet.{Kept}
+use Rattle.ca_client_tables.proofs.Quieted.{quiet-zero}
+use Rattle.ca_client_tables.proofs.searches.Searches.insert.Goals as goal
 
 pub invariant_of-self : goal.invariant_of-self
 invariant_of-self c = quiet-zero c.insert.new.self.entries

@@ -1,16 +1,11 @@
 -- Before which moment no search is due, through what is done to the searches.
-use Rattle.std.proofs.Common.{◌≡◌, ℕ, zero, suc, ◌≤◌, ◌<◌, ◌+◌, Bool, true, false, cond, ◌||◌, nat_eq, List, [], ◌∷◌, Option, None, Some, take, slice_get, refl, subst, sym, ap, ◌∙◌, arith}
+use Rattle.std.proofs.Common.{◌≡◌, ℕ, zero, suc, ◌≤◌, ◌<◌, ◌+◌, Bool, true, false, cond, nat_eq, List, [], ◌∷◌, Option, None, Some, take, slice_get, refl, subst, sym, ap, ◌∙◌, arith}
 use Rattle.std.proofs.lemmas.Bool.{lt-leb}
-use Rattle.std.specs.List.{list_any}
 use Rattle.ca_text.proofs.Places.{some_is}
-use Rattle.ca_ids.specs.Wire.{wire_of}
 use Rattle.ca_search.specs.Clock.{Clock}
 use Rattle.ca_search.specs.Searches.{Channel, due_by, passed, paused, wanted_at}
 use Rattle.ca_search.specs.Searcher.{with_all, with_one, without}
-use Rattle.ca_client_tables.specs.Receiving.{all_settled_in, boosted_if, settled_in}
-use Rattle.ca_client_tables.specs.declared.receiving.Received.{Received}
-use Rattle.ca_client_tables.specs.declared.receiving.Received.TheVariants as received
-use Rattle.ca_client_core.specs.Quiet.{AreQuiet, IsQuiet, NotBefore, is_anomaly}
+use Rattle.ca_client_tables.specs.Quiet.{AreQuiet, IsQuiet, NotBefore}
 
 abbrev pub Entries : Type 0
 Entries = List (ℕ × Channel)
@@ -81,23 +76,3 @@ quiet-next p q (d ∷ es) (suc n) e found early before here = (not-before-earlie
 pub quiet-more : (p q : ℕ) (es : Entries) (n : ℕ) (e : ℕ × Channel) → slice_get es n ≡ Some e → p ≤ q → AreQuiet q (take n es) → IsQuiet p e.1 → AreQuiet p (take (n + 1) es)
 quiet-more p q es n e found early before here =
     subst (λ (k : ℕ). AreQuiet p (take k es)) {x = suc n} {y = n + 1} (omega arith) (quiet-next p q es n e found early before here)
-
--- no anomaly makes all begin again
-settled-one : (q m : ℕ) (d : Received) (es : Entries) → is_anomaly d ≡ false → AreQuiet q es → AreQuiet q (settled_in m d es)
-settled-one q m received.Nothing es none quiet = quiet
-settled-one q m (received.Found f) es none quiet = quiet-paused q (wire_of f.channel) es quiet
-settled-one q m (received.Beacon b) es none quiet = subst (λ (t : Bool). AreQuiet q (boosted_if t m es)) (sym none) quiet
-
-neither-first : (a b : Bool) → (a || b) ≡ false → a ≡ false
-neither-first true b none = none
-neither-first false b none = refl
-
-neither-second : (a b : Bool) → (a || b) ≡ false → b ≡ false
-neither-second true b none = absurd cc
-neither-second false b none = none
-
-pub quiet-settled : (q m : ℕ) (ds : List Received) (es : Entries) → list_any is_anomaly ds ≡ false → AreQuiet q es → AreQuiet q (all_settled_in m ds es)
-quiet-settled q m [] es none quiet = quiet
-quiet-settled q m (d ∷ ds) es none quiet =
-    quiet-settled q m ds (settled_in m d es) (neither-second (is_anomaly d) (list_any is_anomaly ds) none)
-    (settled-one q m d es (neither-first (is_anomaly d) (list_any is_anomaly ds) none) quiet)

@@ -1,9 +1,7 @@
 -- Working: before which moment no search is due. No clause of a caller needs it.
-use Rattle.std.specs.Prelude.{ℕ, ◌≤◌, Bool, false, List, [], ◌∷◌, Option, None, Some}
+use Rattle.std.specs.Prelude.{ℕ, ◌≤◌, List, [], ◌∷◌, Option, None, Some}
 use Rattle.ca_search.specs.Clock.{Clock}
 use Rattle.ca_search.specs.Searches as search
-use Rattle.ca_client_tables.specs.declared.receiving.Received.{Received}
-use Rattle.ca_client_tables.specs.declared.receiving.Received.TheVariants as received
 
 -- the searches that a client keeps, under their CIDs, and for how many more there is room
 pub record Kept : Type 0 where
@@ -23,9 +21,3 @@ IsQuiet quiet c = NotBefore quiet c.clock
 abbrev pub AreQuiet : ℕ → List (ℕ × search.Channel) → Type 0
 AreQuiet quiet [] = Unit
 AreQuiet quiet (e ∷ es) = IsQuiet quiet e.1 × AreQuiet quiet es
-
--- all searches begin again after this
-abbrev pub is_anomaly : Received → Bool
-is_anomaly received.Nothing = false
-is_anomaly (received.Found f) = false
-is_anomaly (received.Beacon b) = b.anomaly

@@ -1,6 +1,6 @@
 use Rattle.std.proofs.Common.{sym}
-use Rattle.ca_client_core.proofs.Quieted.{quiet-more}
-use Rattle.ca_client_core.proofs.searches.quiet_with.Goals as goal
+use Rattle.ca_client_tables.proofs.Quieted.{quiet-more}
+use Rattle.ca_client_tables.proofs.searches.quiet_with.Goals as goal
 
 pub returns : goal.returns
 returns c =
