@@ -1,12 +1,8 @@
 //! A turn of a circuit: bytes move between it and its socket.
-ghost use Rattle.std.specs.Prelude.{◌≡◌, ◌<◌, ◌≤◌, ◌^◌, ◌⊎◌, IsFalse, IsTrue, List, length, Ok};
-ghost use Rattle.std.specs.Prelude.{Err};
-ghost use Rattle.ca_text.specs.declared.refusal.Refusal.TheVariants.{CircuitClosed, OutOfMemory};
-ghost use Rattle.ca_model.specs.Answers.{Sending};
-ghost use Rattle.ca_model.specs.Client.{out_bytes};
-ghost use Rattle.ca_model.specs.ClientEnds.{ClientGives, handed_over};
+ghost use Rattle.std.specs.Prelude.{◌≡◌, ◌<◌, ◌^◌, IsFalse, IsTrue};
+ghost use Rattle.ca_text.specs.declared.refusal.Refusal.TheVariants.{CircuitClosed};
 ghost use Rattle.ca_client.specs.Turning.{Tries};
-ghost use Rattle.ca_client.specs.Turns.{Turns, with_core};
+ghost use Rattle.ca_client.specs.Turns.{Turns};
 
 use crate::socket::{Moved, Socket};
 use crate::state::ClientState;

@@ -12,7 +12,7 @@ use crate::for_histories::{Aim, Sending, of_circuit};
 use ca_arena::Handle;
 use ca_client_tables::Channels;
 use ca_text::{Command, PAYLOAD_LIMIT};
-use ca_wire::{Message, Priority, name_request, version_request};
+use ca_wire::{Priority, name_request, version_request};
 use std::alloc::{AllocError, Global};
 
 /// What the client sends once this circuit is connected: its set-up, and then the CREATE_CHAN of

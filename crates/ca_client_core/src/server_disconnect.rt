@@ -1,5 +1,4 @@
 //! What a client makes of a SERVER_DISCONN.
-ghost use Rattle.std.specs.Prelude.{◌≡◌};
 ghost use Rattle.ca_model.specs.Client as client;
 ghost use Rattle.ca_client_core.specs.Hearing.{HasEffect, left_by};
 ghost use Rattle.ca_client_core.specs.Again.{leaving};

@@ -8,7 +8,6 @@ ghost use Rattle.ca_client_core.specs.Stepping.{stepped_as};
 
 use crate::client::ClientCore;
 use crate::closing::Closing;
-use crate::notice::Notice;
 use crate::notices::Notices;
 use ca_arena::Handle;
 use ca_client_tables::{First, Why};

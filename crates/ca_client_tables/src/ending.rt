@@ -1,5 +1,4 @@
 //! What becomes of the channels of a circuit that has ended.
-ghost use Rattle.std.specs.Prelude.{◌≡◌};
 ghost use Rattle.ca_client_tables.specs.Ending.{StepsAll, StepsAt, again, back_at, gone, gone_at};
 ghost use Rattle.ca_client_tables.specs.Ending.{is_kept, sought};
 ghost use Rattle.ca_client_tables.specs.OnCircuits.{MayBeOn, indices_of};
