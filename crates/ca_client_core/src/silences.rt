@@ -149,20 +149,12 @@ impl ClientCore {
 fn is_echo(keep: Keep) -> bool
     ensures { result ≡ is_echo keep }
 {
-    match keep {
-        Keep::Idle => false,
-        Keep::Echo => true,
-        Keep::Close => false,
-    }
+    matches!(keep, Keep::Echo)
 }
 
 // Whether it asks for the end of the circuit.
 fn is_close(keep: Keep) -> bool
     ensures { result ≡ is_close keep }
 {
-    match keep {
-        Keep::Idle => false,
-        Keep::Echo => false,
-        Keep::Close => true,
-    }
+    matches!(keep, Keep::Close)
 }
