@@ -3,10 +3,10 @@
 ghost use Rattle.ca_board.specs.Views.{HasCollected, HasGivenUp};
 
 use crate::addresses::to_system;
+use crate::circuits::Tries;
 use crate::deadline::{Deadline, time_of};
 use crate::engine::{Engine, Moments};
 use crate::lead::EventPoll;
-use crate::links::Tries;
 use crate::listener::{Change, Listener, SubscribedListener, SubscribedListeners};
 use crate::shared::{LockedClient, SharedClient};
 use ca_arena::Handle;
@@ -196,26 +196,16 @@ impl<L: Listener> Context<L> {
         tickets: &mut Vec<Ticket>,
     ) -> Result<(), Refusal> {
         for some in requests.chunks(AT_ONCE) {
-            self.request_some(rt, some, rooms, tickets)?;
+            let mut guard = self.shared.hold(rt);
+            let (made, all) = guard.request_each(some, rooms, tickets);
+            self.shared.ask();
+            drop(guard);
+            if !all {
+                self.shared.wake();
+            }
+            made?;
         }
         Ok(())
-    }
-
-    fn request_some<R: Wait>(
-        &self,
-        rt: &R,
-        requests: &[RequestCall],
-        rooms: &mut Vec<Value>,
-        tickets: &mut Vec<Ticket>,
-    ) -> Result<(), Refusal> {
-        let mut guard = self.shared.hold(rt);
-        let (made, all) = guard.request_each(requests, rooms, tickets);
-        self.shared.ask();
-        drop(guard);
-        if !all {
-            self.shared.wake();
-        }
-        made
     }
 
     /// Writes a value, with an outcome. Refused as NoCell if too many requests are in flight, and

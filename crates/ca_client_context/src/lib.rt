@@ -33,15 +33,15 @@
 #![tactic(auto)]
 
 mod addresses;
+mod circuit_socket;
+mod circuits;
 mod context;
 mod deadline;
 mod engine;
 mod lead;
-mod links;
 mod listener;
 mod shared;
 mod spread;
-mod wire;
 
 pub use context::{Context, Setting, Waited};
 pub use engine::{Engine, Work, start};

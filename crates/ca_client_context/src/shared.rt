@@ -1,9 +1,9 @@
 //! What callers and the thread of input and output share: what is under the lock, and the atomic
 //! words by which they wake each other without it. That no wake is lost depends on the order of
 //! writes and reads: see the comments of `doze`, `park`, `pass` and `leave`.
+use crate::circuits::{Brought, ConnectedCircuit, ListenerNotices, is_any_full, serve};
 use crate::context::Setting;
 use crate::lead::{EventPoll, LATELY, Lead};
-use crate::links::{Brought, ConnectedCircuit, ListenerNotices, is_any_full, serve};
 use crate::listener::{Change, Listener};
 use crate::spread::Spread;
 use ca_board::Ticket;
@@ -60,7 +60,7 @@ pub(crate) enum WaitPlace {
 #[derive(Drop)]
 pub(crate) struct LockedClient<L: Listener> {
     pub(crate) state: ClientState,
-    pub(crate) links: Vec<ConnectedCircuit>,
+    pub(crate) circuits: Vec<ConnectedCircuit>,
     pub(crate) spread: Spread,
     // What listeners have not been told yet.
     pub(crate) told: Vec<ListenerNotices>,
@@ -88,7 +88,7 @@ impl<L: Listener> LockedClient<L> {
         let state = ClientState::new(alloc, user, host, servers, &names, 0)?;
         Ok(LockedClient {
             state,
-            links: Vec::new(alloc),
+            circuits: Vec::new(alloc),
             spread,
             told: Vec::new(alloc),
             changes: Vec::new(alloc),
@@ -168,7 +168,7 @@ impl<L: Listener> LockedClient<L> {
     // Sends what waits on all circuits, as far as that can be now, and reads what came, or nothing.
     pub(crate) fn move_bytes(&mut self, reads: bool) -> Brought {
         self.unsent = 0;
-        serve(&mut self.state, &mut self.links, &mut self.told, reads)
+        serve(&mut self.state, &mut self.circuits, &mut self.told, reads)
     }
 
     // Whether there is something for the thread of input and output to do, after
@@ -263,7 +263,7 @@ impl<L: Listener> SharedClient<L> {
     // either the thread waits for them, or the caller wakes it.
     pub(crate) fn doze(&self, locked: &mut LockedClient<L>) -> WaitPlace {
         self.asked.store(0, Ordering::SeqCst);
-        let serves = self.crowded.load(Ordering::SeqCst) != 0 || is_any_full(&locked.links);
+        let serves = self.crowded.load(Ordering::SeqCst) != 0 || is_any_full(&locked.circuits);
         if locked.lead.is_left(serves) {
             self.asleep.store(AT_CALL, Ordering::SeqCst);
             if locked.lead.is_led() || !self.is_awaited() {

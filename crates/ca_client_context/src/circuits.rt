@@ -4,7 +4,7 @@ ghost use Rattle.std.specs.Prelude.{◌<◌};
 ghost use Rattle.std.specs.Vec.{vec_capacity, vec_len};
 
 use crate::addresses::to_system;
-use crate::wire::Wire;
+use crate::circuit_socket::CircuitSocket;
 use ca_arena::Handle;
 use ca_client::{Answer, ClientState, CoreCall, Socket, step_all, step_under_lock, turn_over};
 use ca_client_core::{Notice, Notices, WantedCircuit};
@@ -29,7 +29,7 @@ const CIRCUITS: Token = Token(2);
 #[derive(Drop)]
 pub(crate) struct ConnectedCircuit {
     pub(crate) circuit: Handle,
-    wire: Wire,
+    socket: CircuitSocket,
 }
 
 // When each circuit was last tried, at the index of its handle: that of a name server is wanted
@@ -74,7 +74,7 @@ pub(crate) fn connect<R: Net>(
     rt: &R,
     state: &mut ClientState,
     registry: &Registry,
-    links: &mut Vec<ConnectedCircuit>,
+    circuits: &mut Vec<ConnectedCircuit>,
     tries: &mut Tries,
     now: u64,
 ) {
@@ -86,13 +86,13 @@ pub(crate) fn connect<R: Net>(
         if !tries.is_due(circuit, now) {
             continue;
         }
-        if links.reserve(1).is_err() || tries.note(circuit, now).is_err() {
+        if circuits.reserve(1).is_err() || tries.note(circuit, now).is_err() {
             return;
         }
         match reach(rt, registry, wanted) {
-            Some(link) => {
+            Some(connected) => {
                 if let Answer::Connected = step_under_lock(state, CoreCall::Connect(circuit)) {
-                    links.push_reserved(link);
+                    circuits.push_reserved(connected);
                 }
             }
             None => {
@@ -116,7 +116,7 @@ fn reach<R: Net>(rt: &R, registry: &Registry, wanted: WantedCircuit) -> Option<C
     };
     Some(ConnectedCircuit {
         circuit: wanted.circuit,
-        wire: Wire::new(stream),
+        socket: CircuitSocket::new(stream),
     })
 }
 
@@ -178,20 +178,20 @@ impl Brought {
 // Sends what waits on all circuits, as far as that can be now, and reads their messages, or none.
 pub(crate) fn serve(
     state: &mut ClientState,
-    links: &mut Vec<ConnectedCircuit>,
+    circuits: &mut Vec<ConnectedCircuit>,
     told: &mut Vec<ListenerNotices>,
     reads: bool,
 ) -> Brought {
     let mut brought = Brought::nothing();
     // From the last to the first, so that one that ends can be taken out.
-    for index in (0..links.len()).rev() {
-        let Some(link) = links.get_mut(index) else {
+    for index in (0..circuits.len()).rev() {
+        let Some(connected) = circuits.get_mut(index) else {
             continue;
         };
-        match serve_one(state, link, told, reads) {
+        match serve_one(state, connected, told, reads) {
             Some(one) => brought = brought.and(one),
             None => {
-                forget_at(links, index);
+                forget_at(circuits, index);
                 brought = brought.and(Brought::of_end());
             }
         }
@@ -200,14 +200,14 @@ pub(crate) fn serve(
 }
 
 // Whether what waits to be sent on a circuit waits for room in its socket.
-pub(crate) fn is_any_full(links: &[ConnectedCircuit]) -> bool {
-    links.iter().any(|link| link.wire.full)
+pub(crate) fn is_any_full(circuits: &[ConnectedCircuit]) -> bool {
+    circuits.iter().any(|connected| connected.socket.full)
 }
 
 // What a turn brought on one circuit, unless it has ended.
 fn serve_one(
     state: &mut ClientState,
-    link: &mut ConnectedCircuit,
+    connected: &mut ConnectedCircuit,
     told: &mut Vec<ListenerNotices>,
     reads: bool,
 ) -> Option<Brought> {
@@ -215,37 +215,37 @@ fn serve_one(
     if told.reserve(1).is_err() {
         return Some(Brought::nothing());
     }
-    if link.wire.faults() >= MOST_FAULTS {
-        if let Answer::Closed(closing) = step_under_lock(state, CoreCall::Cut(link.circuit)) {
+    if connected.socket.faults() >= MOST_FAULTS {
+        if let Answer::Closed(closing) = step_under_lock(state, CoreCall::Cut(connected.circuit)) {
             keep(told, closing.notices);
         }
         return None;
     }
-    link.wire.drained = !reads;
-    link.wire.came = false;
-    if let Some(closing) = turn_over(state, link.circuit, &mut link.wire) {
+    connected.socket.drained = !reads;
+    connected.socket.came = false;
+    if let Some(closing) = turn_over(state, connected.circuit, &mut connected.socket) {
         keep(told, closing.notices);
         return None;
     }
     if !reads {
         return Some(Brought {
             any: false,
-            more: link.wire.behind,
+            more: connected.socket.behind,
             news: false,
         });
     }
-    let brought = handle_all(state, link.circuit, told)?;
-    Some(brought.and(link.left(brought)))
+    let brought = handle_all(state, connected.circuit, told)?;
+    Some(brought.and(connected.left(brought)))
 }
 
 impl ConnectedCircuit {
     // What is left to be moved after a turn, and may be: after bytes that make no message there may
     // be the end of the stream, of which nothing tells again.
     fn left(&self, brought: Brought) -> Brought {
-        let is_behind = !self.wire.drained || self.wire.behind;
+        let is_behind = !self.socket.drained || self.socket.behind;
         Brought {
             any: is_behind,
-            more: is_behind || self.wire.came && !brought.any,
+            more: is_behind || self.socket.came && !brought.any,
             news: false,
         }
     }
@@ -287,25 +287,25 @@ fn handle_all(
     })
 }
 
-fn forget_at(links: &mut Vec<ConnectedCircuit>, index: usize) {
-    if index < links.len() {
-        links.swap_remove(index);
+fn forget_at(circuits: &mut Vec<ConnectedCircuit>, index: usize) {
+    if index < circuits.len() {
+        circuits.swap_remove(index);
     }
 }
 
 // The circuit has ended.
-pub(crate) fn forget(links: &mut Vec<ConnectedCircuit>, circuit: Handle) {
-    for index in 0..links.len() {
-        if index < links.len() && links[index].circuit == circuit {
-            forget_at(links, index);
+pub(crate) fn forget(circuits: &mut Vec<ConnectedCircuit>, circuit: Handle) {
+    for index in 0..circuits.len() {
+        if index < circuits.len() && circuits[index].circuit == circuit {
+            forget_at(circuits, index);
         }
     }
 }
 
 // Ends all circuits.
-pub(crate) fn close_all(state: &mut ClientState, links: &mut Vec<ConnectedCircuit>) {
-    for index in 0..links.len() {
-        step_under_lock(state, CoreCall::Close(links[index].circuit));
+pub(crate) fn close_all(state: &mut ClientState, circuits: &mut Vec<ConnectedCircuit>) {
+    for index in 0..circuits.len() {
+        step_under_lock(state, CoreCall::Close(circuits[index].circuit));
     }
-    links.clear();
+    circuits.clear();
 }

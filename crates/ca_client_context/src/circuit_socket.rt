@@ -8,7 +8,7 @@ use std::io::{Read, Write};
 
 // The system's stream, of whose bytes nothing is known. Its faults are counted.
 #[derive(Drop)]
-pub(crate) struct Wire {
+pub(crate) struct CircuitSocket {
     stream: TcpStream,
     failed: u64,
     // Something was read in this turn.
@@ -24,12 +24,12 @@ pub(crate) struct Wire {
     pub(crate) full: bool,
 }
 
-impl Wire {
+impl CircuitSocket {
     // A socket over this stream, which had no fault yet.
-    pub(crate) fn new(stream: TcpStream) -> Wire
-        ensures { ⟦<Wire as Socket>⟧.fault_count result ≡ 0 }
+    pub(crate) fn new(stream: TcpStream) -> CircuitSocket
+        ensures { ⟦<CircuitSocket as Socket>⟧.fault_count result ≡ 0 }
     {
-        Wire {
+        CircuitSocket {
             stream,
             failed: 0,
             came: false,
@@ -40,7 +40,7 @@ impl Wire {
     }
 }
 
-impl Socket for Wire {
+impl Socket for CircuitSocket {
     ghost use Rattle.std.specs.Prelude.{⊤};
 
     ghost gives = { λ _ _ _. ⊤ };
