@@ -20,7 +20,7 @@ use mio::net::UdpSocket;
 use mio::{Interest, Registry, Token};
 use std::alloc::{AllocError, Global};
 use std::net::{Ipv4Addr, Net, SocketAddr};
-use std::sync::{Arc, MutexGuard, Wait};
+use std::sync::{Arc, Wait};
 use std::time::{Clock, Duration, Instant};
 
 const DATAGRAMS: Token = Token(1);
@@ -164,8 +164,7 @@ impl<L: Listener> Context<L> {
         data_type: u16,
         count: u32,
     ) -> Result<Ticket, Refusal> {
-        let guard = self.shared.hold(rt);
-        self.issue(guard, &RequestCall::Read(channel, data_type, count))
+        self.issue(rt, None, &RequestCall::Read(channel, data_type, count))
     }
 
     /// Asks for the value of a channel as `get`, into the memory of a value that is no longer used.
@@ -177,9 +176,11 @@ impl<L: Listener> Context<L> {
         count: u32,
         room: Value,
     ) -> Result<Ticket, Refusal> {
-        let mut guard = self.shared.hold(rt);
-        guard.state.recycle(room);
-        self.issue(guard, &RequestCall::Read(channel, data_type, count))
+        self.issue(
+            rt,
+            Some(room),
+            &RequestCall::Read(channel, data_type, count),
+        )
     }
 
     /// Makes requests in order, each as `get` and `put_notify` do, and adds their tickets: one hold
@@ -219,17 +220,17 @@ impl<L: Listener> Context<L> {
         channel: Handle,
         value: Value,
     ) -> Result<Ticket, Refusal> {
-        let guard = self.shared.hold(rt);
-        self.issue(guard, &RequestCall::Put(channel, value))
+        self.issue(rt, None, &RequestCall::Put(channel, value))
     }
 
-    // Makes a request, and lets the lock go.
-    fn issue(
+    fn issue<R: Wait>(
         &self,
-        mut guard: MutexGuard<'_, LockedClient<L>>,
+        rt: &R,
+        room: Option<Value>,
         request: &RequestCall,
     ) -> Result<Ticket, Refusal> {
-        let issued = guard.issue(request);
+        let mut guard = self.shared.hold(rt);
+        let issued = guard.issue(room, request);
         if guard.needs_thread() {
             self.shared.ask();
         }

@@ -99,8 +99,16 @@ impl<L: Listener> LockedClient<L> {
         })
     }
 
-    // Makes a request: its ticket, and whether there is nothing more to be done for it now.
-    pub(crate) fn issue(&mut self, request: &RequestCall) -> Result<(Ticket, bool), Refusal> {
+    // Makes a request, to whose value this one gives its memory: its ticket, and whether there is
+    // nothing more to be done for it now.
+    pub(crate) fn issue(
+        &mut self,
+        room: Option<Value>,
+        request: &RequestCall,
+    ) -> Result<(Ticket, bool), Refusal> {
+        if let Some(room) = room {
+            self.state.recycle(room);
+        }
         let (_, ticket) = issue_under_lock(&mut self.state, request)?;
         self.unsent = self.unsent.saturating_add(1);
         let all = self.unsent < TOGETHER || self.send();
@@ -132,10 +140,7 @@ impl<L: Listener> LockedClient<L> {
         tickets: &mut Vec<Ticket>,
     ) -> Result<bool, Refusal> {
         tickets.reserve(1)?;
-        if let Some(room) = rooms.pop() {
-            self.state.recycle(room);
-        }
-        let (ticket, all) = self.issue(request)?;
+        let (ticket, all) = self.issue(rooms.pop(), request)?;
         tickets.push_reserved(ticket);
         Ok(all)
     }
