@@ -1,6 +1,5 @@
 //! A turn of a circuit: bytes move between it and its socket.
-ghost use Rattle.std.specs.Prelude.{◌≡◌, ◌<◌, ◌^◌, IsFalse, IsTrue};
-ghost use Rattle.ca_text.specs.declared.refusal.Refusal.TheVariants.{CircuitClosed};
+ghost use Rattle.std.specs.Prelude.{◌<◌, ◌^◌};
 ghost use Rattle.ca_client.specs.Turning.{Tries};
 ghost use Rattle.ca_client.specs.Turns.{Turns};
 
@@ -99,20 +98,11 @@ fn read_once<S: Socket>(state: &mut ClientState, circuit: Handle, socket: &mut S
     };
     match state.give(circuit, &buffer[..count], count == 4096) {
         Ok(()) => Turned::GoesOn,
-        Err(refusal) => {
-            if is_closed(refusal) {
-                return Turned::Idle;
-            }
-            Turned::Cut(cut(state, circuit))
-        }
+        Err(refusal) => match refusal {
+            Refusal::CircuitClosed => Turned::Idle,
+            _ => Turned::Cut(cut(state, circuit)),
+        },
     }
-}
-
-fn is_closed(refusal: Refusal) -> bool
-    ensures yes { IsTrue result → refusal ≡ CircuitClosed }
-    ensures no { IsFalse result → refusal ≡ CircuitClosed → ⊥ }
-{
-    refusal == Refusal::CircuitClosed
 }
 
 fn write_once<S: Socket>(state: &mut ClientState, circuit: Handle, socket: &mut S) -> Turned
