@@ -10,7 +10,7 @@ ghost use Rattle.ca_client_tables.specs.Marks.{in_restored, mark_in};
 ghost use Rattle.ca_client_tables.specs.Names.{is_name_in};
 ghost use Rattle.ca_client_tables.specs.Silences.{asked_in, echo_in};
 
-use crate::ends::Address;
+use crate::address::Address;
 use ca_link::{Keep, Link, Mark};
 use ca_monitor::ReadRun;
 use ca_text::{Command, Refusal};

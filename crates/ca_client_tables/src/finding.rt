@@ -10,11 +10,11 @@ ghost use Rattle.ca_client_tables.specs.Finding.{circuit_in, first_to, goes_to, 
 ghost use Rattle.ca_client_tables.specs.Finding.{searched_in, tables, undone, unopened};
 ghost use Rattle.ca_client_tables.specs.Opening.{AreOpening};
 
+use crate::address::Address;
 use crate::beginning::is_same;
 use crate::channel::{Channel, Phase, Standing};
 use crate::channels::{Channels, set_standing};
 use crate::circuit::ClientCircuit;
-use crate::ends::Address;
 use crate::queue::{queue_on, waiting_on};
 use crate::undoing::lose;
 use ca_arena::Handle;

@@ -6,6 +6,7 @@
 //! requests and subscriptions.
 #![tactic(auto)]
 
+mod address;
 mod addressing;
 mod beacons;
 mod beginning;
@@ -17,7 +18,6 @@ mod circuit;
 mod clearing;
 mod connecting;
 mod ending;
-mod ends;
 mod finding;
 mod first;
 mod foreseeing;
@@ -34,6 +34,7 @@ mod valued;
 mod wanted;
 mod why;
 
+pub use address::Address;
 pub use addressing::{AddressedDatagram, to_servers};
 pub use beacons::Beacon;
 pub use beginning::{count_names, name_circuits};
@@ -43,7 +44,6 @@ pub use channels::{Channels, begin_all, end_channels, set_standing};
 pub use circuit::{ClientCircuit, Connection};
 pub use clearing::is_used;
 pub use connecting::{connect, new_connection};
-pub use ends::Address;
 pub use finding::find;
 pub use first::First;
 pub use foretelling::{Creation, creation_by};

@@ -5,10 +5,10 @@ ghost use Rattle.ca_client_tables.specs.Opening.{AreOpening};
 ghost use Rattle.ca_client_tables.specs.Receiving.{HearsIn, ReceivesIn, all_settled_in};
 ghost use Rattle.ca_client_tables.specs.Receiving.{boosted_if, half_parts, settled_in};
 
+use crate::address::Address;
 use crate::beacons::{Beacon, beacon_port, hear_beacon};
 use crate::channels::Channels;
 use crate::circuit::ClientCircuit;
-use crate::ends::Address;
 use crate::finding::{Found, find_one};
 use crate::searches::Searches;
 use ca_arena::Handle;

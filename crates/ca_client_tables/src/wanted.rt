@@ -1,5 +1,5 @@
 //! The circuits that are wanted.
-use crate::ends::Address;
+use crate::address::Address;
 use ca_arena::Handle;
 use std::marker::Model;
 

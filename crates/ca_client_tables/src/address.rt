@@ -1,4 +1,4 @@
-//! Addresses of servers.
+//! The address of a server.
 use std::marker::Model;
 
 /// An IPv4 address and a port.
