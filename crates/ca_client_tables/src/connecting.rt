@@ -122,7 +122,7 @@ fn create_at(
         (creations_at circuit (held_at index (place_at channels.now index)))
         link.old) }
 {
-    let Some((handle, channel)) = channels.any_at(index) else {
+    let Some((handle, channel)) = channels.at(index) else {
         return Ok(());
     };
     if !channel.is_connecting_on(circuit) {

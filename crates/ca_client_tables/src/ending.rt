@@ -7,7 +7,7 @@ ghost use Rattle.ca_model.specs.Client.{is_cleared};
 
 use crate::candidates::Candidates;
 use crate::channel::{Channel, Standing};
-use crate::channels::{any_at, put};
+use crate::channels::{channel_at, put};
 use crate::searches::Searches;
 use ca_arena::Handle;
 use ca_ids::{HeldTable, WireId};
@@ -53,7 +53,7 @@ fn let_go_at(
         (sought channels.new searches.new.entries) }
     ensures client { IsClient channels.new searches.new.entries }
 {
-    let Some((handle, channel)) = any_at(channels, index) else {
+    let Some((handle, channel)) = channel_at(channels, index) else {
         return;
     };
     if !channel.is_cleared_on(circuit) {
@@ -107,7 +107,7 @@ fn search_again_at(
         (sought channels.new searches.new.entries) }
     ensures client { IsClient channels.new searches.new.entries }
 {
-    let Some((handle, channel)) = any_at(channels, index) else {
+    let Some((handle, channel)) = channel_at(channels, index) else {
         return;
     };
     if !channel.is_kept_on(circuit) {
