@@ -11,6 +11,7 @@ ghost use Rattle.ca_client_tables.specs.Names.{is_name_in};
 ghost use Rattle.ca_client_tables.specs.Silences.{asked_in, echo_in};
 
 use crate::address::Address;
+use ca_arena::Handle;
 use ca_link::{Keep, Link, Mark};
 use ca_monitor::ReadRun;
 use ca_text::{Command, Refusal};
@@ -68,6 +69,32 @@ impl Model for ClientCircuit {
     } };
 
     ghost invariant = { λ c. c.priority ≤ priority_limit };
+}
+
+/// A circuit that is wanted, and not connected.
+#[derive(Clone, Copy, Debug, PartialEq, Eq)]
+pub struct WantedCircuit {
+    /// Its handle from now on.
+    pub circuit: Handle,
+    /// Where its server is.
+    pub address: Address,
+    /// Its priority, from 0 to 99.
+    pub priority: u16,
+}
+
+impl Model for WantedCircuit {
+    ghost use Rattle.ca_model.specs.ClientCalls as calls;
+
+    ghost Value = { calls.WantedCircuit };
+
+    ghost view = { λ w.
+        record { circuit = w.circuit; address = w.address; priority = w.priority } };
+
+    ghost inverse = { λ w. record {
+      circuit = w.circuit;
+      address = record { host = w.address.host; port = w.address.port };
+      priority = w.priority;
+    } };
 }
 
 impl ClientCircuit {

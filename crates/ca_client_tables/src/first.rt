@@ -1,12 +1,12 @@
 //! What comes first on a circuit, read where it came.
 ghost use Rattle.std.specs.Prelude.{◌≡◌};
+ghost use Rattle.ca_dbr.specs.Octets.{AreBytes};
 ghost use Rattle.ca_wire.specs.Reading.{IsWhole};
 ghost use Rattle.ca_client_tables.specs.First.{FirstAt, FirstIn, in_bytes, payload_at};
 ghost use Rattle.ca_client_tables.specs.First.{without_front, without_head};
 ghost use Rattle.ca_client_tables.specs.Closings.{why_is};
 ghost use Rattle.ca_model.specs.Ends.{why_of};
 
-use crate::bytes::know_bytes;
 use crate::circuit::{ClientCircuit, Connection};
 use crate::why::Why;
 use ca_text::Refusal;
@@ -95,6 +95,11 @@ impl Connection {
         self.link.drop_front(head.start + head.header.size as usize);
     }
 }
+
+// A law: each element of a slice of bytes is a byte.
+fn know_bytes(bytes: &[u8])
+    ensures { AreBytes bytes.now }
+{}
 
 // The end of a circuit on which a header is refused for this.
 fn bad_header(refusal: Refusal) -> Why
