@@ -247,7 +247,7 @@ end_at_sockets:
     fi
 }
 
-/* Context::issue_under. */
+/* Context::issue. */
 inline issue(me) {
     QUEUE(me);
     d_step {

@@ -21,15 +21,15 @@ pub fn issue_under_lock(
 ) -> Result<(Handle, Ticket), Refusal>
     ensures { HasIssuedUnderLock state.old request.now result state.new }
 {
-    let ClientState {
-        core,
-        seat,
-        tickets,
-        board,
-    } = state;
-    let ticket = arm_one(board, seat)?;
-    let handle = issue_or_take_back(core, board, seat, ticket, request)?;
-    tickets[usize::from(handle.index)] = ticket;
+    let ticket = arm_one(&state.board, &mut state.seat)?;
+    let handle = issue_or_take_back(
+        &mut state.core,
+        &state.board,
+        &mut state.seat,
+        ticket,
+        request,
+    )?;
+    state.tickets[usize::from(handle.index)] = ticket;
     Ok((handle, ticket))
 }
 

@@ -1,12 +1,7 @@
 //! A turn of a circuit: bytes move between it and its socket.
-ghost use Rattle.std.specs.Prelude.{◌≡◌, ◌<◌, ◌≤◌, ◌^◌, ◌⊎◌, IsFalse, IsTrue, List, length, Ok};
-ghost use Rattle.std.specs.Prelude.{Err};
-ghost use Rattle.ca_text.specs.declared.refusal.Refusal.TheVariants.{CircuitClosed, OutOfMemory};
-ghost use Rattle.ca_model.specs.Answers.{Sending};
-ghost use Rattle.ca_model.specs.Client.{out_bytes};
-ghost use Rattle.ca_model.specs.ClientEnds.{ClientGives, handed_over};
+ghost use Rattle.std.specs.Prelude.{◌<◌, ◌^◌};
 ghost use Rattle.ca_client.specs.Turning.{Tries};
-ghost use Rattle.ca_client.specs.Turns.{Turns, with_core};
+ghost use Rattle.ca_client.specs.Turns.{Turns};
 
 use crate::socket::{Moved, Socket};
 use crate::state::ClientState;
@@ -103,20 +98,11 @@ fn read_once<S: Socket>(state: &mut ClientState, circuit: Handle, socket: &mut S
     };
     match state.give(circuit, &buffer[..count], count == 4096) {
         Ok(()) => Turned::GoesOn,
-        Err(refusal) => {
-            if is_closed(refusal) {
-                return Turned::Idle;
-            }
-            Turned::Cut(cut(state, circuit))
-        }
+        Err(refusal) => match refusal {
+            Refusal::CircuitClosed => Turned::Idle,
+            _ => Turned::Cut(cut(state, circuit)),
+        },
     }
-}
-
-fn is_closed(refusal: Refusal) -> bool
-    ensures yes { IsTrue result → refusal ≡ CircuitClosed }
-    ensures no { IsFalse result → refusal ≡ CircuitClosed → ⊥ }
-{
-    refusal == Refusal::CircuitClosed
 }
 
 fn write_once<S: Socket>(state: &mut ClientState, circuit: Handle, socket: &mut S) -> Turned

@@ -3,29 +3,25 @@
 ghost use Rattle.ca_board.specs.Views.{HasCollected, HasGivenUp};
 
 use crate::addresses::to_system;
+use crate::circuits::Tries;
 use crate::deadline::{Deadline, time_of};
 use crate::engine::{Engine, Moments};
-use crate::lead::SocketPoll;
-use crate::links::Tries;
+use crate::lead::EventPoll;
 use crate::listener::{Change, Listener, SubscribedListener, SubscribedListeners};
 use crate::shared::{LockedClient, SharedClient};
 use ca_arena::Handle;
 use ca_board::Ticket;
-use ca_client::{
-    Answer, Caller, ClientState, CoreCall, RequestCall, issue_under_lock, step_under_lock,
-};
+use ca_client::{Answer, Caller, CoreCall, RequestCall, step_under_lock};
 use ca_client_core::{Address, ChannelState};
 use ca_dbr::{Outcome, Value};
 use ca_dgram::register;
 use ca_text::{Mask, Refusal};
 use mio::net::UdpSocket;
-use mio::{Events, Interest, Poll, Registry, Token, Waker};
+use mio::{Interest, Registry, Token};
 use std::alloc::{AllocError, Global};
 use std::net::{Ipv4Addr, Net, SocketAddr};
-use std::sync::{Arc, MutexGuard, Wait};
+use std::sync::{Arc, Wait};
 use std::time::{Clock, Duration, Instant};
-
-const WAKER: Token = Token(0);
 
 const DATAGRAMS: Token = Token(1);
 
@@ -67,7 +63,8 @@ pub struct Setting {
 }
 
 impl<L: Listener> Context<L> {
-    /// A client, and the work of its thread of input and output, which `start` starts.
+    /// A client, and the work of its thread of input and output, which `start` starts. A register
+    /// goes to the repeater, if there is one.
     ///
     /// Refused as `ClientCore::new`, as Device if the system refuses a socket, and as OutOfMemory.
     pub fn new<R: Net + Clock + Copy + Drop>(
@@ -75,16 +72,36 @@ impl<L: Listener> Context<L> {
         alloc: Global,
         setting: Setting,
     ) -> Result<(Context<L>, Engine<R, L>), Refusal> {
-        let Setting {
-            user,
-            host,
-            servers,
-            names,
-            repeater,
-        } = setting;
-        let parts = Parts::new(&rt, alloc, repeater)?;
-        let state = ClientState::new(alloc, user, host, servers, &names, 0)?;
-        joined(rt, alloc, state, parts)
+        let Ok(began) = Instant::now(&rt) else {
+            return Err(Refusal::Device);
+        };
+        let sockets = EventPoll::new(&rt, alloc, 256)?;
+        let call = EventPoll::new(&rt, alloc, 4)?;
+        let sockets_waker = sockets.waker()?;
+        let thread_waker = call.waker()?;
+        let Ok(registry) = sockets.registry().try_clone() else {
+            return Err(Refusal::Device);
+        };
+        let datagrams = datagrams(&rt, &registry, call.registry())?;
+        if let Some(address) = setting.repeater {
+            let _ = datagrams.send_to(&register(Ipv4Addr::LOCALHOST), to_system(address));
+        }
+        let listeners = SubscribedListeners::new(alloc)?;
+        let locked = LockedClient::new(alloc, setting)?;
+        let shared = SharedClient::new(locked, sockets, sockets_waker, thread_waker);
+        let shared = Arc::new(alloc, shared)?;
+        let engine = Engine {
+            net: rt,
+            shared: Arc::try_clone(&shared)?,
+            registry,
+            call,
+            datagrams,
+            tries: Tries::new(alloc),
+            listeners,
+            told: Vec::new(alloc),
+            moments: Moments::new(began),
+        };
+        Ok((Context { shared }, engine))
     }
 
     /// A caller, for one thread.
@@ -147,7 +164,7 @@ impl<L: Listener> Context<L> {
         data_type: u16,
         count: u32,
     ) -> Result<Ticket, Refusal> {
-        self.issue(rt, &RequestCall::Read(channel, data_type, count))
+        self.issue(rt, None, &RequestCall::Read(channel, data_type, count))
     }
 
     /// Asks for the value of a channel as `get`, into the memory of a value that is no longer used.
@@ -159,9 +176,11 @@ impl<L: Listener> Context<L> {
         count: u32,
         room: Value,
     ) -> Result<Ticket, Refusal> {
-        let mut guard = self.shared.hold(rt);
-        guard.state.recycle(room);
-        self.issue_under(guard, &RequestCall::Read(channel, data_type, count))
+        self.issue(
+            rt,
+            Some(room),
+            &RequestCall::Read(channel, data_type, count),
+        )
     }
 
     /// Makes requests in order, each as `get` and `put_notify` do, and adds their tickets: one hold
@@ -178,26 +197,16 @@ impl<L: Listener> Context<L> {
         tickets: &mut Vec<Ticket>,
     ) -> Result<(), Refusal> {
         for some in requests.chunks(AT_ONCE) {
-            self.request_some(rt, some, rooms, tickets)?;
+            let mut guard = self.shared.hold(rt);
+            let (made, all) = guard.request_each(some, rooms, tickets);
+            self.shared.ask();
+            drop(guard);
+            if !all {
+                self.shared.wake();
+            }
+            made?;
         }
         Ok(())
-    }
-
-    fn request_some<R: Wait>(
-        &self,
-        rt: &R,
-        requests: &[RequestCall],
-        rooms: &mut Vec<Value>,
-        tickets: &mut Vec<Ticket>,
-    ) -> Result<(), Refusal> {
-        let mut guard = self.shared.hold(rt);
-        let (made, all) = guard.request_each(requests, rooms, tickets);
-        self.shared.ask();
-        drop(guard);
-        if !all {
-            self.shared.wake();
-        }
-        made
     }
 
     /// Writes a value, with an outcome. Refused as NoCell if too many requests are in flight, and
@@ -211,30 +220,25 @@ impl<L: Listener> Context<L> {
         channel: Handle,
         value: Value,
     ) -> Result<Ticket, Refusal> {
-        self.issue(rt, &RequestCall::Put(channel, value))
+        self.issue(rt, None, &RequestCall::Put(channel, value))
     }
 
-    fn issue<R: Wait>(&self, rt: &R, request: &RequestCall) -> Result<Ticket, Refusal> {
-        let guard = self.shared.hold(rt);
-        self.issue_under(guard, request)
-    }
-
-    // Makes a request, and lets the lock go.
-    fn issue_under(
+    fn issue<R: Wait>(
         &self,
-        mut guard: MutexGuard<'_, LockedClient<L>>,
+        rt: &R,
+        room: Option<Value>,
         request: &RequestCall,
     ) -> Result<Ticket, Refusal> {
-        let issued = issue_under_lock(&mut guard.state, request);
-        let all = guard.note();
+        let mut guard = self.shared.hold(rt);
+        let issued = guard.issue(room, request);
         if guard.needs_thread() {
             self.shared.ask();
         }
         drop(guard);
+        let (ticket, all) = issued?;
         if !all {
             self.shared.wake();
         }
-        let (_, ticket) = issued?;
         Ok(ticket)
     }
 
@@ -529,107 +533,6 @@ impl<L: Listener> LockedClient<L> {
         self.state.unsubscribe(subscription)?;
         self.changes.push_reserved(Change::Ends(subscription));
         Ok(())
-    }
-}
-
-// What an engine is made of, beside the client's state.
-#[derive(Drop)]
-struct Parts<L: Listener> {
-    sockets: SocketPoll,
-    sockets_waker: Waker,
-    registry: Registry,
-    call_poll: Poll,
-    thread_waker: Waker,
-    events: Events<Global>,
-    datagrams: UdpSocket,
-    listeners: SubscribedListeners<L>,
-    began: Instant,
-}
-
-impl<L: Listener> Parts<L> {
-    // A register goes to the repeater, if there is one.
-    fn new<R: Net + Clock>(
-        rt: &R,
-        alloc: Global,
-        repeater: Option<Address>,
-    ) -> Result<Parts<L>, Refusal> {
-        let Ok(began) = Instant::now(rt) else {
-            return Err(Refusal::Device);
-        };
-        let sockets = SocketPoll {
-            poll: poll(rt)?,
-            events: Events::with_capacity(alloc, 256)?,
-        };
-        let call_poll = poll(rt)?;
-        let Ok(registry) = sockets.poll.registry().try_clone() else {
-            return Err(Refusal::Device);
-        };
-        let datagrams = datagrams(rt, &registry, call_poll.registry())?;
-        if let Some(address) = repeater {
-            let _ = datagrams.send_to(&register(Ipv4Addr::LOCALHOST), to_system(address));
-        }
-        Ok(Parts {
-            sockets_waker: waker(&registry)?,
-            thread_waker: waker(call_poll.registry())?,
-            sockets,
-            registry,
-            call_poll,
-            datagrams,
-            events: Events::with_capacity(alloc, 4)?,
-            listeners: SubscribedListeners::new(alloc)?,
-            began,
-        })
-    }
-}
-
-fn joined<R: Net + Clock + Copy + Drop, L: Listener>(
-    rt: R,
-    alloc: Global,
-    state: ClientState,
-    parts: Parts<L>,
-) -> Result<(Context<L>, Engine<R, L>), Refusal> {
-    let Parts {
-        sockets,
-        sockets_waker,
-        registry,
-        call_poll,
-        thread_waker,
-        events,
-        datagrams,
-        listeners,
-        began,
-    } = parts;
-    let locked = LockedClient::new(alloc, state)?;
-    let shared = Arc::new(
-        alloc,
-        SharedClient::new(locked, sockets, sockets_waker, thread_waker),
-    )?;
-    let engine = Engine {
-        net: rt,
-        shared: Arc::try_clone(&shared)?,
-        registry,
-        call_poll,
-        events,
-        datagrams,
-        tries: Tries::new(alloc),
-        listeners,
-        told: Vec::new(alloc),
-        moments: Moments::new(began),
-    };
-    Ok((Context { shared }, engine))
-}
-
-fn poll<R: Net>(rt: &R) -> Result<Poll, Refusal> {
-    match Poll::new(rt) {
-        Ok(poll) => Ok(poll),
-        Err(_) => Err(Refusal::Device),
-    }
-}
-
-fn waker(registry: &Registry) -> Result<Waker, Refusal> {
-    match Waker::new(registry, WAKER) {
-        Ok(waker) => Ok(waker),
-        Err(_) => Err(Refusal::Device),
     }
 }
 

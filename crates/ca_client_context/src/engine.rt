@@ -1,17 +1,16 @@
 //! The thread of input and output. Begin at `run` of `Engine`: it waits, takes one turn under the
 //! lock (`work`), and then calls the listeners with the lock released.
 use crate::addresses::{from_system, to_system};
-use crate::lead::{TURN, wait_at};
-use crate::links::{Brought, ListenerNotices, Tries, close_all, connect, forget, keep};
+use crate::circuits::{Brought, ListenerNotices, Tries, close_all, connect, forget, keep};
+use crate::lead::{EventPoll, TURN};
 use crate::listener::{Listener, SubscribedListeners};
 use crate::shared::{LockedClient, SharedClient, WaitPlace};
 use ca_client::{Answer, ClientState, CoreCall, step_under_lock};
 use ca_client_core::{Notice, Ticked};
 use ca_dbr::Outcome;
 use ca_text::Refusal;
+use mio::Registry;
 use mio::net::UdpSocket;
-use mio::{Events, Poll, Registry};
-use std::alloc::Global;
 use std::mem::swap;
 use std::net::Net;
 use std::sync::{Arc, Wait};
@@ -58,8 +57,7 @@ pub struct Engine<N: Net + Drop, L: Listener> {
     // What waits for the sockets.
     pub(crate) registry: Registry,
     // What waits to be called, while callers wait for the sockets.
-    pub(crate) call_poll: Poll,
-    pub(crate) events: Events<Global>,
+    pub(crate) call: EventPoll,
     pub(crate) datagrams: UdpSocket,
     pub(crate) tries: Tries,
     pub(crate) listeners: SubscribedListeners<L>,
@@ -131,7 +129,7 @@ impl<N: Net + Drop, L: Listener> Engine<N, L> {
         match place {
             WaitPlace::Nowhere => {}
             WaitPlace::Sockets => self.shared.watch(rt, most),
-            WaitPlace::Call => wait_at(rt, &mut self.call_poll, &mut self.events, most),
+            WaitPlace::Call => self.call.watch(rt, most),
         }
         self.shared.rise();
     }
@@ -160,7 +158,7 @@ impl<N: Net + Drop, L: Listener> Engine<N, L> {
         );
         swap(&mut locked.told, &mut self.told);
         if locked.ending {
-            close_all(&mut locked.state, &mut locked.links);
+            close_all(&mut locked.state, &mut locked.circuits);
             return (None, brought);
         }
         // What it was brought may be the leader's.
@@ -229,7 +227,7 @@ fn turn<N: Net, L: Listener>(
         net,
         &mut locked.state,
         registry,
-        &mut locked.links,
+        &mut locked.circuits,
         tries,
         now,
     );
@@ -260,7 +258,7 @@ fn hear(state: &mut ClientState, datagrams: &UdpSocket, now: u64) -> bool {
 // were cut. It says whether there were any.
 fn tick<L: Listener>(locked: &mut LockedClient<L>, datagrams: &UdpSocket, now: u64) -> bool {
     // No moment is told without room for what it tells.
-    if locked.told.reserve(locked.links.len()).is_err() {
+    if locked.told.reserve(locked.circuits.len()).is_err() {
         return false;
     }
     let Answer::Ticked(ticked) = step_under_lock(&mut locked.state, CoreCall::Tick(now)) else {
@@ -278,7 +276,7 @@ fn tick<L: Listener>(locked: &mut LockedClient<L>, datagrams: &UdpSocket, now: u
     }
     let any = !closings.is_empty();
     for left in closings {
-        forget(&mut locked.links, left.circuit);
+        forget(&mut locked.circuits, left.circuit);
         if locked.told.reserve(1).is_ok() {
             keep(&mut locked.told, left.notices);
         }

@@ -1,10 +1,15 @@
 //! Who waits for the sockets: the thread of input and output, or a caller in its place, which is
 //! said to lead. This is only the state, which is under the lock; `shared.rt` wakes and waits by
 //! it.
-use mio::{Events, Poll};
+use ca_text::Refusal;
+use mio::{Events, Poll, Registry, Token, Waker};
 use std::alloc::Global;
+use std::net::Net;
 use std::thread;
 use std::time::{Clock, Duration};
+
+// The events of wakers.
+const WAKER: Token = Token(0);
 
 // A wait of the thread of input and output, and one for the sockets, takes at most
 // this many milliseconds.
@@ -16,30 +21,43 @@ pub(crate) const LATELY: u64 = 2;
 // A caller that leads, and was not seen for this many times 10 ms, keeps nobody else from reading.
 const LATE: u64 = 2;
 
-// Waits for the sockets. One thread at a time does.
+// Waits for events: of the sockets, or to be called. One thread at a time waits at each.
 #[derive(Drop)]
-pub(crate) struct SocketPoll {
-    pub(crate) poll: Poll,
-    pub(crate) events: Events<Global>,
+pub(crate) struct EventPoll {
+    poll: Poll,
+    // Those that one wait brings, and nobody reads.
+    events: Events<Global>,
 }
 
-impl SocketPoll {
+impl EventPoll {
+    // Refused as Device if the system has none, and as OutOfMemory.
+    pub(crate) fn new<R: Net>(rt: &R, alloc: Global, most: usize) -> Result<EventPoll, Refusal> {
+        let Ok(poll) = Poll::new(rt) else {
+            return Err(Refusal::Device);
+        };
+        let events = Events::with_capacity(alloc, most)?;
+        Ok(EventPoll { poll, events })
+    }
+
+    pub(crate) fn registry(&self) -> &Registry {
+        self.poll.registry()
+    }
+
+    // What ends a wait.
+    pub(crate) fn waker(&self) -> Result<Waker, Refusal> {
+        match Waker::new(self.registry(), WAKER) {
+            Ok(waker) => Ok(waker),
+            Err(_) => Err(Refusal::Device),
+        }
+    }
+
+    // Waits for this time or a turn at most. A wait that the system refuses takes as long, so that
+    // a fault that lasts costs no processor.
     pub(crate) fn watch<R: Clock>(&mut self, rt: &R, most: Duration) {
         let most = most.min(Duration::from_millis(TURN));
-        wait_at(rt, &mut self.poll, &mut self.events, most);
-    }
-}
-
-// Waits for this time at most. A wait that the system refuses takes as long, so that a fault that
-// lasts costs no processor.
-pub(crate) fn wait_at<R: Clock>(
-    rt: &R,
-    poll: &mut Poll,
-    events: &mut Events<Global>,
-    most: Duration,
-) {
-    if poll.poll(events, Some(most)).is_err() {
-        thread::sleep(rt, most);
+        if self.poll.poll(&mut self.events, Some(most)).is_err() {
+            thread::sleep(rt, most);
+        }
     }
 }
 

@@ -33,11 +33,12 @@
 #![tactic(auto)]
 
 mod addresses;
+mod circuit_socket;
+mod circuits;
 mod context;
 mod deadline;
 mod engine;
 mod lead;
-mod links;
 mod listener;
 mod shared;
 mod spread;

@@ -1,8 +1,9 @@
 //! What callers and the thread of input and output share: what is under the lock, and the atomic
 //! words by which they wake each other without it. That no wake is lost depends on the order of
 //! writes and reads: see the comments of `doze`, `park`, `pass` and `leave`.
-use crate::lead::{LATELY, Lead, SocketPoll};
-use crate::links::{Brought, ConnectedCircuit, ListenerNotices, is_any_full, serve};
+use crate::circuits::{Brought, ConnectedCircuit, ListenerNotices, is_any_full, serve};
+use crate::context::Setting;
+use crate::lead::{EventPoll, LATELY, Lead};
 use crate::listener::{Change, Listener};
 use crate::spread::Spread;
 use ca_board::Ticket;
@@ -10,7 +11,7 @@ use ca_client::{ClientState, RequestCall, issue_under_lock};
 use ca_dbr::Value;
 use ca_text::Refusal;
 use mio::Waker;
-use std::alloc::{AllocError, Global};
+use std::alloc::Global;
 use std::sync::atomic::{AtomicU64, Ordering};
 use std::sync::{Mutex, MutexGuard, Wait};
 use std::time::{Clock, Duration};
@@ -59,7 +60,7 @@ pub(crate) enum WaitPlace {
 #[derive(Drop)]
 pub(crate) struct LockedClient<L: Listener> {
     pub(crate) state: ClientState,
-    pub(crate) links: Vec<ConnectedCircuit>,
+    pub(crate) circuits: Vec<ConnectedCircuit>,
     pub(crate) spread: Spread,
     // What listeners have not been told yet.
     pub(crate) told: Vec<ListenerNotices>,
@@ -75,11 +76,20 @@ pub(crate) struct LockedClient<L: Listener> {
 }
 
 impl<L: Listener> LockedClient<L> {
-    pub(crate) fn new(alloc: Global, state: ClientState) -> Result<LockedClient<L>, AllocError> {
+    pub(crate) fn new(alloc: Global, setting: Setting) -> Result<LockedClient<L>, Refusal> {
+        let Setting {
+            user,
+            host,
+            servers,
+            names,
+            ..
+        } = setting;
+        let spread = Spread::new(alloc)?;
+        let state = ClientState::new(alloc, user, host, servers, &names, 0)?;
         Ok(LockedClient {
             state,
-            links: Vec::new(alloc),
-            spread: Spread::new(alloc)?,
+            circuits: Vec::new(alloc),
+            spread,
             told: Vec::new(alloc),
             changes: Vec::new(alloc),
             unsent: 0,
@@ -89,10 +99,20 @@ impl<L: Listener> LockedClient<L> {
         })
     }
 
-    // A request was made. It says whether there is nothing more to be done for it now.
-    pub(crate) fn note(&mut self) -> bool {
+    // Makes a request, to whose value this one gives its memory: its ticket, and whether there is
+    // nothing more to be done for it now.
+    pub(crate) fn issue(
+        &mut self,
+        room: Option<Value>,
+        request: &RequestCall,
+    ) -> Result<(Ticket, bool), Refusal> {
+        if let Some(room) = room {
+            self.state.recycle(room);
+        }
+        let (_, ticket) = issue_under_lock(&mut self.state, request)?;
         self.unsent = self.unsent.saturating_add(1);
-        self.unsent < TOGETHER || self.send()
+        let all = self.unsent < TOGETHER || self.send();
+        Ok((ticket, all))
     }
 
     // Makes requests, until one is refused. It says what came of them, and whether there is nothing
@@ -120,12 +140,9 @@ impl<L: Listener> LockedClient<L> {
         tickets: &mut Vec<Ticket>,
     ) -> Result<bool, Refusal> {
         tickets.reserve(1)?;
-        if let Some(room) = rooms.pop() {
-            self.state.recycle(room);
-        }
-        let (_, ticket) = issue_under_lock(&mut self.state, request)?;
+        let (ticket, all) = self.issue(rooms.pop(), request)?;
         tickets.push_reserved(ticket);
-        Ok(self.note())
+        Ok(all)
     }
 
     // Whether the thread of input and output is to be told of the request that was made.
@@ -156,7 +173,7 @@ impl<L: Listener> LockedClient<L> {
     // Sends what waits on all circuits, as far as that can be now, and reads what came, or nothing.
     pub(crate) fn move_bytes(&mut self, reads: bool) -> Brought {
         self.unsent = 0;
-        serve(&mut self.state, &mut self.links, &mut self.told, reads)
+        serve(&mut self.state, &mut self.circuits, &mut self.told, reads)
     }
 
     // Whether there is something for the thread of input and output to do, after
@@ -172,7 +189,7 @@ pub(crate) struct SharedClient<L: Listener> {
     pub(crate) locked: Mutex<LockedClient<L>>,
     // Whoever waits for the sockets has it. What lies under the other lock says who that is, so
     // nobody waits for this one for long.
-    sockets: Mutex<SocketPoll>,
+    sockets: Mutex<EventPoll>,
     // Ends a wait for the sockets.
     sockets_waker: Waker,
     // Ends the wait of the thread of input and output while callers wait for the sockets.
@@ -197,7 +214,7 @@ pub(crate) struct SharedClient<L: Listener> {
 impl<L: Listener> SharedClient<L> {
     pub(crate) fn new(
         locked: LockedClient<L>,
-        sockets: SocketPoll,
+        sockets: EventPoll,
         sockets_waker: Waker,
         thread_waker: Waker,
     ) -> SharedClient<L> {
@@ -251,7 +268,7 @@ impl<L: Listener> SharedClient<L> {
     // either the thread waits for them, or the caller wakes it.
     pub(crate) fn doze(&self, locked: &mut LockedClient<L>) -> WaitPlace {
         self.asked.store(0, Ordering::SeqCst);
-        let serves = self.crowded.load(Ordering::SeqCst) != 0 || is_any_full(&locked.links);
+        let serves = self.crowded.load(Ordering::SeqCst) != 0 || is_any_full(&locked.circuits);
         if locked.lead.is_left(serves) {
             self.asleep.store(AT_CALL, Ordering::SeqCst);
             if locked.lead.is_led() || !self.is_awaited() {

@@ -28,7 +28,6 @@ mod Moments
 mod Ahead
 mod Marked
 mod Passing
-mod Quieted
 mod Begun
 mod Prepared
 mod Rounds

@@ -17,7 +17,6 @@ pub mod Clearing
 pub mod Moments
 pub mod Marks
 pub mod Silences
-pub mod Quiet
 pub mod Replying
 pub mod Ticked
 pub mod Wanted

@@ -3,9 +3,8 @@ ghost use Rattle.std.specs.Prelude.{◌<◌};
 ghost use Rattle.ca_model.specs.ClientEnds.{ClientBegins};
 
 use crate::client::ClientCore;
-use crate::searches::Searches;
 use ca_beacon::BeaconTable;
-use ca_client_tables::{Address, Channels, count_names, name_circuits};
+use ca_client_tables::{Address, Channels, Searches, count_names, name_circuits};
 use ca_monitor::Monitors;
 use ca_requests::Requests;
 use ca_text::{ARENA_SLOTS, PAYLOAD_LIMIT, Refusal};

@@ -1,8 +1,7 @@
 //! The state of a client.
-use crate::searches::Searches;
 use ca_arena::Handle;
 use ca_beacon::BeaconTable;
-use ca_client_tables::{Address, Channels, ClientCircuit, LiveChannels};
+use ca_client_tables::{Address, Channels, ClientCircuit, LiveChannels, Searches};
 use ca_ids::HeldTable;
 use ca_monitor::Monitors;
 use ca_requests::Requests;

@@ -1,15 +1,10 @@
 //! What a client makes of the reply to a CREATE_CHAN.
 ghost use Rattle.std.specs.Prelude.{[], ◌≡◌, OnErr, OnOk, length};
-ghost use Rattle.ca_text.specs.Command.{command_number};
-ghost use Rattle.ca_text.specs.declared.command.Command.TheVariants.{CreateChannel};
 ghost use Rattle.ca_model.specs.Client as client;
 ghost use Rattle.ca_requests.specs.Meaning.{message_of};
 ghost use Rattle.ca_model.specs.Client.{out_bytes};
 ghost use Rattle.ca_model.specs.Hears.{native_in};
 ghost use Rattle.ca_client_tables.specs.Forms.{native_of};
-ghost use Rattle.ca_client_tables.specs.declared.first.First.TheVariants.{Message};
-ghost use Rattle.ca_client_core.specs.Dispatch.{HearsFirst};
-ghost use Rattle.ca_client_core.specs.First.{FirstOn};
 ghost use Rattle.ca_client_core.specs.Hearing.{HasEffect, created_by};
 ghost use Rattle.ca_client_tables.specs.Ends.{cut_back, with_message, with_messages};
 ghost use Rattle.ca_client_core.specs.Again.{add_message, add_messages, dooming, living};
@@ -24,27 +19,17 @@ use ca_arena::Handle;
 use ca_client_tables::{Native, Phase};
 use ca_ids::WireId;
 use ca_monitor::Subscription;
-use ca_wire::{Cid, Head, Header, Sid, clear_request};
+use ca_wire::{Cid, Header, Sid, clear_request};
 use std::alloc::AllocError;
 
 impl ClientCore {
-    // Without memory for it nothing else changes.
+    // The channel is live, and is subscribed to again under the same ids; one that its caller
+    // cleared meanwhile is cleared now.
     pub(crate) fn hear_create_channel(
         &mut self,
         circuit: Handle,
-        head: &Head,
+        header: &Header,
     ) -> Result<Notices, AllocError>
-        requires first { FirstOn self.old circuit (Message head.now) }
-        requires command { head.now.header.command ≡ command_number CreateChannel }
-        ensures { HearsFirst self.old circuit head.now result self.new }
-    {
-        self.take(circuit, head);
-        self.hear_created(circuit, &head.header)
-    }
-
-    // The channel is live, and is subscribed to again under the same ids; one that its caller
-    // cleared meanwhile is cleared now.
-    fn hear_created(&mut self, circuit: Handle, header: &Header) -> Result<Notices, AllocError>
         ensures { HasEffect self.old (created_by self.old circuit header.now) result self.new }
     {
         let Some((channel, phase)) = self.channel_on(circuit, header.p1) else {

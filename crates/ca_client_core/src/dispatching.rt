@@ -13,8 +13,9 @@ use ca_wire::Head;
 use std::alloc::AllocError;
 
 impl ClientCore {
-    // The first message of a circuit, which has this header, is handled and dropped. What needs its
-    // payload reads it where it came. Without memory for it nothing else changes.
+    // The first message of a circuit, which has this header, is handled and dropped: if it needs no
+    // payload it is dropped first, else that is read where it came. Without memory for it nothing
+    // else changes.
     pub(crate) fn hear(&mut self, circuit: Handle, head: &Head) -> Result<Notices, AllocError>
         requires { FirstOn self.old circuit (Message head.now) }
         ensures { HearsFirst self.old circuit head.now result self.new }
@@ -28,11 +29,29 @@ impl ClientCore {
             Command::EventAdd => self.hear_event_add(circuit, head),
             Command::Error => Ok(Notices::one(self.alloc, self.hear_error(circuit, head))),
             Command::Search => self.hear_search(circuit, head),
-            Command::CreateChannel => self.hear_create_channel(circuit, head),
-            Command::CreateChannelFail => self.hear_create_channel_fail(circuit, head),
-            Command::AccessRights => self.hear_access_rights(circuit, head),
-            Command::ServerDisconnect => self.hear_server_disconnect(circuit, head),
-            Command::ClearChannel => self.hear_clear_channel(circuit, head),
+            Command::CreateChannel => {
+                self.take(circuit, head);
+                self.hear_create_channel(circuit, &head.header)
+            }
+            Command::CreateChannelFail => {
+                self.take(circuit, head);
+                self.hear_create_channel_fail(circuit, &head.header);
+                Ok(Notices::none(self.alloc))
+            }
+            Command::AccessRights => {
+                self.take(circuit, head);
+                self.hear_access_rights(circuit, &head.header);
+                Ok(Notices::none(self.alloc))
+            }
+            Command::ServerDisconnect => {
+                self.take(circuit, head);
+                self.hear_server_disconnect(circuit, &head.header)
+            }
+            Command::ClearChannel => {
+                self.take(circuit, head);
+                self.hear_clear_channel(circuit, &head.header);
+                Ok(Notices::none(self.alloc))
+            }
             // VERSION needs no answer, and no server sends the others.
             _ => self.skip(circuit, head),
         }

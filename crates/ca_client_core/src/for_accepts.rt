@@ -1,5 +1,5 @@
 //! Calls for a recorder of histories before a circuit is connected. No client needs them.
-ghost use Rattle.std.specs.Prelude.{◌≡◌, ◌≢◌, ◌<◌, ◌≤◌, ◌++◌, [], IfOk, OnErr, OnOk, length, map};
+ghost use Rattle.std.specs.Prelude.{◌≡◌, ◌≢◌, ◌≤◌, ◌++◌, [], IfOk, OnErr, OnOk, map};
 ghost use Rattle.ca_text.specs.Limits.{priority_limit};
 ghost use Rattle.ca_arena.specs.Arena.{place_at};
 ghost use Rattle.ca_ids.specs.Table.{held, held_at};
@@ -12,7 +12,7 @@ use crate::for_histories::{Aim, Sending, of_circuit};
 use ca_arena::Handle;
 use ca_client_tables::Channels;
 use ca_text::{Command, PAYLOAD_LIMIT};
-use ca_wire::{Message, Priority, name_request, version_request};
+use ca_wire::{Priority, name_request, version_request};
 use std::alloc::{AllocError, Global};
 
 /// What the client sends once this circuit is connected: its set-up, and then the CREATE_CHAN of
@@ -89,7 +89,6 @@ fn list_creation(
     index: usize,
     sent: &mut Vec<Sending>,
 ) -> Result<(), AllocError>
-    requires { index < length channels.now }
     ensures { OnOk result (map sending_of sent.new.items
         ≡ map sending_of sent.old.items
         ++ creations_of_one circuit (held_at index (place_at channels.now index))) }

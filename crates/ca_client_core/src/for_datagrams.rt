@@ -34,15 +34,22 @@ pub(crate) fn push_creations(sent: &mut Vec<Sending>, creations: Vec<Creation>)
         ≡ map sending_of sent.old.items ++ map as_sent creations.items }
 {
     for creation in creations {
-        let Creation {
-            circuit,
-            channel,
-            message,
-        } = creation;
-        sent.push_reserved(Sending {
-            circuit,
-            message,
-            aim: Aim::Create(channel),
-        });
+        sent.push_reserved(of_creation(creation));
+    }
+}
+
+// A CREATE_CHAN as it is sent.
+pub(crate) fn of_creation(creation: Creation) -> Sending
+    ensures { sending_of result ≡ as_sent creation }
+{
+    let Creation {
+        circuit,
+        channel,
+        message,
+    } = creation;
+    Sending {
+        circuit,
+        message,
+        aim: Aim::Create(channel),
     }
 }

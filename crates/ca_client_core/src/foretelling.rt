@@ -8,10 +8,11 @@ ghost use Rattle.ca_client_core.specs.Foretelling.{adds_sent, foretold, found_se
 ghost use Rattle.ca_client_core.specs.Hearing.{created_by, left_by};
 
 use crate::client::ClientCore;
+use crate::for_datagrams::of_creation;
 use crate::for_histories::{Aim, Sending};
 use crate::subscribing::add_message;
 use ca_arena::Handle;
-use ca_client_tables::{Address, Creation, Phase, creation_by};
+use ca_client_tables::{Address, Phase, creation_by};
 use ca_ids::WireId;
 use ca_monitor::Subscription;
 use ca_text::Command;
@@ -54,20 +55,7 @@ impl ClientCore {
         let Some(creation) = found else {
             return Ok(Vec::new(self.alloc));
         };
-        let Creation {
-            circuit,
-            channel,
-            message,
-        } = creation;
-        let aim = Aim::Create(channel);
-        one(
-            self.alloc,
-            Sending {
-                circuit,
-                message,
-                aim,
-            },
-        )
+        one(self.alloc, of_creation(creation))
     }
 
     // CREATE_CHAN: a channel that is live is subscribed to again; one that its caller cleared

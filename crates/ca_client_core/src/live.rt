@@ -22,8 +22,6 @@ pub(crate) struct Live {
 
 impl ClientCore {
     // The channel of this handle, if it is live.
-    //
-    // Refused as StaleHandle, then as NotLive.
     pub(crate) fn live(&self, channel: Handle) -> Result<Live, Refusal>
         ensures { lives result ≡ live_in (standing_at self.now channel) }
     {
@@ -48,8 +46,6 @@ impl ClientCore {
     }
 
     // The live channel on which a read or a subscription may go out, while an id is free for it.
-    //
-    // Refused as StaleHandle, NotLive, BadType, NoAccess, BadCount, then as OutputFull.
     pub(crate) fn askable(
         &self,
         channel: Handle,

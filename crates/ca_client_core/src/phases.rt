@@ -10,7 +10,6 @@ ghost use Rattle.ca_client_core.specs.Turns.{MayTurn};
 ghost use Rattle.ca_model.specs.Placed.{HasNothingOut};
 
 use crate::client::ClientCore;
-use crate::searches::resume;
 use ca_arena::Handle;
 use ca_client_tables::{Native, Phase, Standing, note_live, set_standing};
 use ca_ids::WireId;
@@ -77,11 +76,8 @@ impl ClientCore {
         ensures { self.new ≡ searched_again self.old channel }
     {
         set_standing(&mut self.channels, channel, Standing::Searching);
-        resume(
-            &mut self.searches,
-            WireId::of(channel).number(),
-            self.moment,
-        );
+        self.searches
+            .resume(WireId::of(channel).number(), self.moment);
     }
 
     // Nothing has the CID of this channel.

@@ -10,7 +10,6 @@ ghost use Rattle.ca_client_core.specs.Hearing.{FindsOr};
 
 use crate::client::ClientCore;
 use crate::notices::Notices;
-use crate::searches::pause_found;
 use ca_arena::Handle;
 use ca_client_tables::{Address, find};
 use ca_wire::{Head, Header};
@@ -50,7 +49,7 @@ impl ClientCore {
             reply,
         )?;
         if let Some(channel) = found {
-            pause_found(&mut self.searches, channel);
+            self.searches.pause(channel);
         }
         Ok(())
     }

@@ -1,11 +1,5 @@
 //! What a client makes of a SERVER_DISCONN.
-ghost use Rattle.std.specs.Prelude.{◌≡◌};
-ghost use Rattle.ca_text.specs.Command.{command_number};
-ghost use Rattle.ca_text.specs.declared.command.Command.TheVariants.{ServerDisconnect};
 ghost use Rattle.ca_model.specs.Client as client;
-ghost use Rattle.ca_client_tables.specs.declared.first.First.TheVariants.{Message};
-ghost use Rattle.ca_client_core.specs.Dispatch.{HearsFirst};
-ghost use Rattle.ca_client_core.specs.First.{FirstOn};
 ghost use Rattle.ca_client_core.specs.Hearing.{HasEffect, left_by};
 ghost use Rattle.ca_client_core.specs.Again.{leaving};
 ghost use Rattle.ca_client_core.specs.Turns.{MayTurn};
@@ -16,27 +10,17 @@ use crate::notices::Notices;
 use ca_arena::Handle;
 use ca_client_tables::Phase;
 use ca_ids::WireId;
-use ca_wire::{Cid, Head, Header, Sid, clear_request};
+use ca_wire::{Cid, Header, Sid, clear_request};
 use std::alloc::AllocError;
 
 impl ClientCore {
-    // Without memory for it nothing else changes.
+    // A live channel's requests complete with Disconnected, in order of issue; it is lost, and
+    // cleared.
     pub(crate) fn hear_server_disconnect(
         &mut self,
         circuit: Handle,
-        head: &Head,
+        header: &Header,
     ) -> Result<Notices, AllocError>
-        requires first { FirstOn self.old circuit (Message head.now) }
-        requires command { head.now.header.command ≡ command_number ServerDisconnect }
-        ensures { HearsFirst self.old circuit head.now result self.new }
-    {
-        self.take(circuit, head);
-        self.hear_left(circuit, &head.header)
-    }
-
-    // A live channel's requests complete with Disconnected, in order of issue; it is lost, and
-    // cleared.
-    fn hear_left(&mut self, circuit: Handle, header: &Header) -> Result<Notices, AllocError>
         ensures { HasEffect self.old (left_by self.old circuit header.now) result self.new }
     {
         let Some((channel, phase)) = self.channel_on(circuit, header.p1) else {

@@ -6,8 +6,7 @@ ghost use Rattle.ca_model.specs.ClientEnds.{Ticking};
 ghost use Rattle.ca_client_core.specs.Foretold.{Notes};
 ghost use Rattle.ca_client_core.specs.Marks.{undone};
 ghost use Rattle.ca_client_core.specs.Moments.{EchoIsDue, EchoesAll, all_echoed, asked_at};
-ghost use Rattle.ca_client_core.specs.Moments.{echo_step, is_close, is_echo, is_echo_due};
-ghost use Rattle.ca_client_core.specs.Moments.{is_silent, silent_of};
+ghost use Rattle.ca_client_core.specs.Moments.{echo_step, is_echo_due, is_silent, silent_of};
 ghost use Rattle.ca_client_core.specs.Silences.{echoed};
 
 use crate::client::ClientCore;
@@ -42,14 +41,14 @@ impl ClientCore {
     fn is_echo_due(&self, circuit: Handle) -> bool
         ensures { result ≡ is_echo_due self.now circuit }
     {
-        is_echo(self.asked(circuit))
+        matches!(self.asked(circuit), Keep::Echo)
     }
 
     // Whether a circuit was silent too long.
     pub(crate) fn is_silent(&self, circuit: Handle) -> bool
         ensures { result ≡ is_silent self.now circuit }
     {
-        is_close(self.asked(circuit))
+        matches!(self.asked(circuit), Keep::Close)
     }
 
     // The circuits that were silent too long, in order.
@@ -142,27 +141,5 @@ impl ClientCore {
         };
         found.echo(self.alloc, self.moment)?;
         Ok(())
-    }
-}
-
-// Whether it asks for an ECHO.
-fn is_echo(keep: Keep) -> bool
-    ensures { result ≡ is_echo keep }
-{
-    match keep {
-        Keep::Idle => false,
-        Keep::Echo => true,
-        Keep::Close => false,
-    }
-}
-
-// Whether it asks for the end of the circuit.
-fn is_close(keep: Keep) -> bool
-    ensures { result ≡ is_close keep }
-{
-    match keep {
-        Keep::Idle => false,
-        Keep::Echo => false,
-        Keep::Close => true,
     }
 }

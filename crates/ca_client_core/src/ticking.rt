@@ -16,9 +16,8 @@ use crate::closing::Closing;
 use crate::for_histories::Sending;
 use crate::marks::CircuitMark;
 use crate::notices::Notices;
-use crate::searches::{due_in, find_after, pass};
 use ca_arena::Handle;
-use ca_client_tables::{AddressedDatagram, Why, packed, to_servers};
+use ca_client_tables::{AddressedDatagram, EndCause, packed, to_servers};
 use ca_search::Search;
 use ca_text::Refusal;
 use ca_wire::Pipe;
@@ -161,7 +160,7 @@ impl ClientCore {
         if !self.is_silent(circuit) {
             return;
         }
-        let Closing { notices, left, .. } = self.end(circuit, Why::Silence);
+        let Closing { notices, left, .. } = self.end(circuit, EndCause::Silence);
         closings.push_reserved(Left {
             circuit,
             notices,
@@ -174,7 +173,7 @@ impl ClientCore {
         ensures { self.new
             ≡ record self.old { searches = with_all (passed self.old.moment) self.old.searches } }
     {
-        pass(&mut self.searches, self.moment);
+        self.searches.pass(self.moment);
     }
 
     // These datagrams to each server, in order.
@@ -203,15 +202,10 @@ impl ClientCore {
             self.now.searches ≢ []) }
     {
         if ends.is_empty() {
-            return due_in(self.alloc, &self.searches, self.moment);
+            return self.searches.due(self.alloc, self.moment);
         }
-        find_after(
-            self.alloc,
-            &self.channels,
-            &self.searches,
-            ends,
-            self.moment,
-        )
+        self.searches
+            .due_after(self.alloc, &self.channels, ends, self.moment)
     }
 
     // There are no more channels than CIDs have indices, and each CID is searched for once.

@@ -55,9 +55,7 @@ impl ClientCore {
         found.queue_value(&head, value)?;
         Ok(())
     }
-}
 
-impl ClientCore {
     /// Writes a value to a channel, with no answer if that is done.
     ///
     /// Refused as StaleHandle, as NotLive, as NoAccess without the right to write, as BadCount for
@@ -121,8 +119,6 @@ impl ClientCore {
     }
 
     // The live channel to which a value may be written, while an id is free for that.
-    //
-    // Refused as StaleHandle, NotLive, NoAccess, BadCount, then as OutputFull.
     fn puttable(&self, channel: Handle, value: &Value) -> Result<Live, Refusal>
         ensures { MayPut self.now channel (elements value.now) result }
     {

@@ -8,6 +8,7 @@ pub mod Listing
 pub mod Finds
 pub mod Arrivals
 pub mod Settling
+pub mod Quieted
 pub mod Anomalies
 pub mod Packings
 pub mod Sifting

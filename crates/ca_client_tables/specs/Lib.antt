@@ -12,6 +12,7 @@ pub mod Listed
 pub mod OnCircuits
 pub mod Opening
 pub mod Receiving
+pub mod Quiet
 pub mod Marks
 pub mod Ahead
 pub mod Silences

@@ -2,7 +2,7 @@
 ghost use Rattle.std.specs.Prelude.{◌≡◌, ◌≢◌, ◌++◌, [], IfOk, OnErr, OnOk, flat_map, map};
 ghost use Rattle.ca_model.specs.ClientEnds.{to_server};
 
-use crate::ends::Address;
+use crate::address::Address;
 use std::alloc::{AllocError, Global};
 use std::marker::Model;
 

@@ -4,7 +4,7 @@ ghost use Rattle.std.specs.Net.Addr.{ipv4_bits};
 ghost use Rattle.ca_beacon.specs.Table.{restored, server};
 ghost use Rattle.ca_client_tables.specs.Receiving.{HearsBeacon, IsPort, beacon_host};
 
-use crate::ends::Address;
+use crate::address::Address;
 use ca_beacon::BeaconTable;
 use ca_wire::Message;
 use std::alloc::AllocError;

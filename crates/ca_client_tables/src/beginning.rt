@@ -5,8 +5,8 @@ ghost use Rattle.ca_model.specs.ClientEnds.{distinct};
 ghost use Rattle.ca_model.specs.Ends.{same_address};
 ghost use Rattle.ca_client_tables.specs.Names.{Adds, HasNames, is_among, seen_before};
 
+use crate::address::Address;
 use crate::circuit::ClientCircuit;
-use crate::ends::Address;
 use ca_arena::Handle;
 use ca_ids::HeldTable;
 use std::alloc::{AllocError, Global};

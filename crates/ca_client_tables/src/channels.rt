@@ -1,6 +1,5 @@
 //! The channels of a client, and which of them are on each circuit.
-ghost use Rattle.std.specs.Prelude.{◌≡◌, ◌<◌, ◌≤◌, ◌&&◌, [], ℕ, Some, length, option_copied};
-ghost use Rattle.std.specs.Prelude.{option_map, true};
+ghost use Rattle.std.specs.Prelude.{◌≡◌, ◌≤◌, [], ℕ, Some, length, option_copied, option_map, true};
 ghost use Rattle.ca_text.specs.Limits.{arena_slots};
 ghost use Rattle.ca_arena.specs.Arena.{place_at};
 ghost use Rattle.ca_ids.specs.Holding.{Gives};
@@ -22,12 +21,11 @@ ghost use Rattle.ca_client_tables.specs.Sound.{IsClient};
 use crate::candidates::Candidates;
 use crate::channel::{Channel, Phase, Standing};
 use crate::ending::{let_cleared_go, search_again};
+use crate::searches::Searches;
 use ca_arena::Handle;
 use ca_ids::{HeldTable, WireId};
 use ca_lists::IndexLists;
-use ca_search::Place;
 use ca_text::Refusal;
-use indexmap::IndexMap;
 use std::alloc::Global;
 use std::marker::Model;
 
@@ -83,21 +81,12 @@ impl Channels {
         self.table.know_places();
     }
 
-    /// The channel that has the CID of this index, with its handle.
+    /// The channel that has a CID of this index, with its handle, if one does.
     pub fn at(&self, index: usize) -> Option<(Handle, &Channel)>
-        requires { index < length self.now }
         ensures { option_map (λ e. (e.0, e.1.now)) result
             ≡ held_at index (place_at self.now index) }
     {
-        self.table.at(index)
-    }
-
-    /// What has a CID of this index, and its handle, if any does.
-    pub(crate) fn any_at(&self, index: usize) -> Option<(Handle, &Channel)>
-        ensures { option_map (λ e. (e.0, e.1.now)) result
-            ≡ held_at index (place_at self.now index) }
-    {
-        any_at(&self.table, index)
+        channel_at(&self.table, index)
     }
 
     /// Whether no CID may be given.
@@ -183,8 +172,8 @@ impl Channels {
     }
 }
 
-/// What has a CID of this index, if any does.
-pub(crate) fn any_at(table: &HeldTable<Channel>, index: usize) -> Option<(Handle, &Channel)>
+/// The channel that has a CID of this index, if one does.
+pub(crate) fn channel_at(table: &HeldTable<Channel>, index: usize) -> Option<(Handle, &Channel)>
     ensures { option_map (λ e. (e.0, e.1.now)) result
         ≡ held_at index (place_at table.now index) }
 {
@@ -206,7 +195,7 @@ fn circuit_under(table: &HeldTable<Channel>, handle: Handle) -> Option<u16> {
 fn is_on_index(table: &HeldTable<Channel>, index: u16, circuit: u16) -> bool
     ensures { result ≡ is_on_index circuit (place_at table.now index).value }
 {
-    match any_at(table, usize::from(index)) {
+    match channel_at(table, usize::from(index)) {
         Some((_, channel)) => channel.is_on_index(circuit),
         None => false,
     }
@@ -263,12 +252,7 @@ pub(crate) fn put(table: &mut HeldTable<Channel>, handle: Handle, standing: Stan
 
 /// The channels of a circuit that has ended: those that were cleared are gone, the others
 /// are searched for again.
-pub fn end_channels(
-    channels: &mut Channels,
-    searches: &mut IndexMap<u32, Place>,
-    circuit: Handle,
-    moment: u64,
-)
+pub fn end_channels(channels: &mut Channels, searches: &mut Searches, circuit: Handle, moment: u64)
     requires { IsClient channels.old searches.old.entries }
     ensures steps { EndsAll
         circuit
@@ -315,7 +299,7 @@ fn begin_each(table: &mut HeldTable<Channel>, on: Candidates, circuit: Handle)
 fn begin_at(table: &mut HeldTable<Channel>, index: usize, circuit: Handle)
     ensures { table.new ≡ with_place index (creating_at circuit) table.old }
 {
-    let Some((handle, channel)) = any_at(table, index) else {
+    let Some((handle, channel)) = channel_at(table, index) else {
         return;
     };
     if !channel.is_connecting_on(circuit) {

@@ -31,7 +31,7 @@ fn is_on_at(channels: &Channels, circuit: Handle, index: usize) -> bool
         × (held_at index (place_at channels.now index) ≡ Some (h, v))
         × (is_on_in is_any circuit v ≡ true) }
 {
-    let Some((_, channel)) = channels.any_at(index) else {
+    let Some((_, channel)) = channels.at(index) else {
         return false;
     };
     channel.is_on(circuit)

@@ -122,7 +122,7 @@ fn create_at(
         (creations_at circuit (held_at index (place_at channels.now index)))
         link.old) }
 {
-    let Some((handle, channel)) = channels.any_at(index) else {
+    let Some((handle, channel)) = channels.at(index) else {
         return Ok(());
     };
     if !channel.is_connecting_on(circuit) {
@@ -142,16 +142,7 @@ pub fn connect(circuits: &mut HeldTable<ClientCircuit>, circuit: Handle, connect
         circuits.old }
 {
     if let Some(found) = circuits.by_handle_mut(circuit) {
-        found.connect(connection);
-    }
-}
-
-impl ClientCircuit {
-    // It has this end.
-    fn connect(&mut self, connection: Connection)
-        ensures { self.new ≡ record self.old { connection = Some connection } }
-    {
-        self.connection = Some(connection);
+        found.connection = Some(connection);
     }
 }
 

@@ -1,25 +1,21 @@
 //! What becomes of the channels of a circuit that has ended.
-ghost use Rattle.std.specs.Prelude.{◌≡◌};
 ghost use Rattle.ca_client_tables.specs.Ending.{StepsAll, StepsAt, again, back_at, gone, gone_at};
 ghost use Rattle.ca_client_tables.specs.Ending.{is_kept, sought};
 ghost use Rattle.ca_client_tables.specs.OnCircuits.{MayBeOn, indices_of};
 ghost use Rattle.ca_client_tables.specs.Sound.{IsClient};
-ghost use Rattle.ca_search.specs.Searcher.{with_one};
-ghost use Rattle.ca_search.specs.Searches.{resumed};
 ghost use Rattle.ca_model.specs.Client.{is_cleared};
 
 use crate::candidates::Candidates;
 use crate::channel::{Channel, Standing};
-use crate::channels::{any_at, put};
+use crate::channels::{channel_at, put};
+use crate::searches::Searches;
 use ca_arena::Handle;
 use ca_ids::{HeldTable, WireId};
-use ca_search::Place;
-use indexmap::IndexMap;
 
 /// The channels on this circuit that were cleared are gone. All on it are at these indices.
 pub(crate) fn let_cleared_go(
     channels: &mut HeldTable<Channel>,
-    searches: &mut IndexMap<u32, Place>,
+    searches: &mut Searches,
     on: Candidates,
     circuit: Handle,
 )
@@ -42,7 +38,7 @@ pub(crate) fn let_cleared_go(
 // The channel at this index is gone, if it was cleared on this circuit.
 fn let_go_at(
     channels: &mut HeldTable<Channel>,
-    searches: &mut IndexMap<u32, Place>,
+    searches: &mut Searches,
     circuit: Handle,
     index: usize,
 )
@@ -57,21 +53,21 @@ fn let_go_at(
         (sought channels.new searches.new.entries) }
     ensures client { IsClient channels.new searches.new.entries }
 {
-    let Some((handle, channel)) = any_at(channels, index) else {
+    let Some((handle, channel)) = channel_at(channels, index) else {
         return;
     };
     if !channel.is_cleared_on(circuit) {
         return;
     }
     let _ = channels.free(handle);
-    searches.shift_remove(&WireId::of(handle).number());
+    searches.remove(WireId::of(handle).number());
 }
 
 /// The others that were on this circuit are searched for again, as from the beginning. All on it
 /// are at these indices.
 pub(crate) fn search_again(
     channels: &mut HeldTable<Channel>,
-    searches: &mut IndexMap<u32, Place>,
+    searches: &mut Searches,
     on: Candidates,
     circuit: Handle,
     moment: u64,
@@ -95,7 +91,7 @@ pub(crate) fn search_again(
 // The channel at this index is searched for again, if it was on this circuit and is not cleared.
 fn search_again_at(
     channels: &mut HeldTable<Channel>,
-    searches: &mut IndexMap<u32, Place>,
+    searches: &mut Searches,
     circuit: Handle,
     moment: u64,
     index: usize,
@@ -111,21 +107,12 @@ fn search_again_at(
         (sought channels.new searches.new.entries) }
     ensures client { IsClient channels.new searches.new.entries }
 {
-    let Some((handle, channel)) = any_at(channels, index) else {
+    let Some((handle, channel)) = channel_at(channels, index) else {
         return;
     };
     if !channel.is_kept_on(circuit) {
         return;
     }
     put(channels, handle, Standing::Searching);
-    resume(searches, WireId::of(handle).number(), moment);
-}
-
-/// The searches for this CID begin again, as from this moment.
-pub fn resume(searches: &mut IndexMap<u32, Place>, cid: u32, moment: u64)
-    ensures { searches.new.entries ≡ with_one (resumed moment) cid searches.old.entries }
-{
-    if let Some(place) = searches.get_mut(&cid) {
-        place.resume(moment);
-    }
+    searches.resume(WireId::of(handle).number(), moment);
 }

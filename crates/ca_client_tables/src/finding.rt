@@ -2,10 +2,7 @@
 ghost use Rattle.std.specs.Prelude.{◌≡◌, ◌<◌, ◌≤◌, [], is_some, length, option_map};
 ghost use Rattle.ca_text.specs.Limits.{priority_limit};
 ghost use Rattle.ca_ids.specs.Table.{held_at, with_all_held};
-ghost use Rattle.ca_ids.specs.Wire.{wire_of};
 ghost use Rattle.ca_arena.specs.Arena.{place_at};
-ghost use Rattle.ca_search.specs.Searcher.{with_one};
-ghost use Rattle.ca_search.specs.Searches.{paused};
 ghost use Rattle.ca_requests.specs.Meaning.{message_of};
 ghost use Rattle.ca_model.specs.Hears.{found_at, is_searched};
 ghost use Rattle.ca_client_tables.specs.Finding.{CreatesIn, FindsIn, FindsOne, WantsNew};
@@ -13,18 +10,16 @@ ghost use Rattle.ca_client_tables.specs.Finding.{circuit_in, first_to, goes_to, 
 ghost use Rattle.ca_client_tables.specs.Finding.{searched_in, tables, undone, unopened};
 ghost use Rattle.ca_client_tables.specs.Opening.{AreOpening};
 
+use crate::address::Address;
 use crate::beginning::is_same;
 use crate::channel::{Channel, Phase, Standing};
 use crate::channels::{Channels, set_standing};
 use crate::circuit::ClientCircuit;
-use crate::ends::Address;
 use crate::queue::{queue_on, waiting_on};
 use crate::undoing::lose;
 use ca_arena::Handle;
 use ca_ids::{HeldTable, WireId};
-use ca_search::Place;
 use ca_wire::{Header, Message};
-use indexmap::IndexMap;
 use std::alloc::{AllocError, Global};
 
 /// In place of an address, in a reply: the server is where the reply came from.
@@ -228,22 +223,6 @@ fn create_on(
         circuit,
         how,
     }))
-}
-
-/// There are no more searches for this channel.
-pub fn pause_found(searches: &mut IndexMap<u32, Place>, channel: Handle)
-    ensures { searches.new.entries ≡ with_one paused (wire_of channel) searches.old.entries }
-{
-    pause(searches, WireId::of(channel).number());
-}
-
-// There are no more searches for this CID.
-fn pause(searches: &mut IndexMap<u32, Place>, cid: u32)
-    ensures { searches.new.entries ≡ with_one paused cid searches.old.entries }
-{
-    if let Some(place) = searches.get_mut(&cid) {
-        place.pause();
-    }
 }
 
 // Where the server of a search reply is: at the address in it, or where the reply came from.

@@ -1,14 +1,14 @@
 //! What comes first on a circuit, read where it came.
 ghost use Rattle.std.specs.Prelude.{◌≡◌};
+ghost use Rattle.ca_dbr.specs.Octets.{AreBytes};
 ghost use Rattle.ca_wire.specs.Reading.{IsWhole};
 ghost use Rattle.ca_client_tables.specs.First.{FirstAt, FirstIn, in_bytes, payload_at};
-ghost use Rattle.ca_client_tables.specs.First.{without_front, without_head};
+ghost use Rattle.ca_client_tables.specs.First.{without_head};
 ghost use Rattle.ca_client_tables.specs.Closings.{why_is};
 ghost use Rattle.ca_model.specs.Ends.{why_of};
 
-use crate::bytes::know_bytes;
 use crate::circuit::{ClientCircuit, Connection};
-use crate::why::Why;
+use crate::end_cause::EndCause;
 use ca_text::Refusal;
 use ca_wire::{Head, One, read_one};
 
@@ -22,7 +22,7 @@ pub enum First {
     /// A complete message with this header.
     Message(Head),
     /// A header that is refused: the end is to end for this.
-    Bad(Why),
+    Bad(EndCause),
 }
 
 impl ClientCircuit {
@@ -44,7 +44,10 @@ impl ClientCircuit {
         ensures { result.now ≡ payload_at (in_bytes self.now.connection) head.now }
     {
         match &self.connection {
-            Some(connection) => connection.payload(head),
+            Some(connection) => {
+                let end = head.start + head.header.size as usize;
+                &connection.link.in_bytes()[head.start..end]
+            }
             None => &[],
         }
     }
@@ -56,7 +59,9 @@ impl ClientCircuit {
         ensures { self.new ≡ without_head head.now self.old }
     {
         if let Some(connection) = &mut self.connection {
-            connection.drop_first(head);
+            connection
+                .link
+                .drop_front(head.start + head.header.size as usize);
         }
     }
 }
@@ -75,33 +80,19 @@ impl Connection {
             One::Bad(refusal) => First::Bad(bad_header(refusal)),
         }
     }
-
-    // The payload of the first message, which has this header.
-    #[inline(always)]
-    fn payload(&self, head: &Head) -> &[u8]
-        requires { IsWhole self.now.link.input.bytes head.now }
-        ensures { result.now ≡ payload_at self.now.link.input.bytes head.now }
-    {
-        let end = head.start + head.header.size as usize;
-        &self.link.in_bytes()[head.start..end]
-    }
-
-    // Drops the first message, which has this header.
-    #[inline(always)]
-    fn drop_first(&mut self, head: &Head)
-        requires { IsWhole self.old.link.input.bytes head.now }
-        ensures { self.new ≡ without_front head.now self.old }
-    {
-        self.link.drop_front(head.start + head.header.size as usize);
-    }
 }
 
+// A law: each element of a slice of bytes is a byte.
+fn know_bytes(bytes: &[u8])
+    ensures { AreBytes bytes.now }
+{}
+
 // The end of a circuit on which a header is refused for this.
-fn bad_header(refusal: Refusal) -> Why
+fn bad_header(refusal: Refusal) -> EndCause
     ensures { why_is result ≡ why_of refusal }
 {
     match refusal {
-        Refusal::Misaligned => Why::Misaligned,
-        _ => Why::TooLarge,
+        Refusal::Misaligned => EndCause::Misaligned,
+        _ => EndCause::TooLarge,
     }
 }

@@ -5,15 +5,37 @@ ghost use Rattle.ca_client_tables.specs.Ahead.{sought_in};
 
 use crate::channel::{Channel, Standing, is_same};
 use crate::channels::Channels;
+use crate::searches::Searches;
 use ca_arena::Handle;
 use ca_ids::WireId;
 use ca_search::{Place, Search};
 use indexmap::IndexMap;
 use std::alloc::{AllocError, Global};
 
-/// The searches that are due once these circuits have ended, in order. It takes memory
-/// only if there is one.
-pub fn find_after(
+impl Searches {
+    /// The searches that are due once these circuits have ended, in order. It takes memory only if
+    /// there is one.
+    pub fn due_after(
+        &self,
+        alloc: Global,
+        channels: &Channels,
+        ends: &[Handle],
+        moment: u64,
+    ) -> Result<Vec<Search>, AllocError>
+        ensures found { IfOk result (λ v. v.items
+            ≡ due_after (is_in ends.now) moment channels.now self.now.entries) }
+        ensures some { OnErr result (due_after
+            (is_in ends.now)
+            moment
+            channels.now
+            self.now.entries ≢ []) }
+    {
+        find_after(alloc, channels, &self.places, ends, moment)
+    }
+}
+
+// As `due_after`, of these searches.
+fn find_after(
     alloc: Global,
     channels: &Channels,
     searches: &IndexMap<u32, Place>,

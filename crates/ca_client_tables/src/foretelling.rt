@@ -5,9 +5,9 @@ ghost use Rattle.ca_requests.specs.Meaning.{message_of};
 ghost use Rattle.ca_client_tables.specs.Foretelling.{creation_by};
 ghost use Rattle.ca_client_tables.specs.Opening.{AreOpening};
 
+use crate::address::Address;
 use crate::channels::Channels;
 use crate::circuit::ClientCircuit;
-use crate::ends::Address;
 use crate::finding::{circuit_to, found_at, searched_by};
 use ca_arena::Handle;
 use ca_ids::HeldTable;

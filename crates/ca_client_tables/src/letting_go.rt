@@ -2,7 +2,7 @@
 ghost use Rattle.std.specs.Prelude.{◌≡◌, [], None, filter, if◌then◌else◌, not, option_map};
 ghost use Rattle.std.specs.Prelude.{unwrap_or};
 ghost use Rattle.ca_ids.specs.Table.{same_handle, with_changed, with_freed};
-ghost use Rattle.ca_client_tables.specs.Ends.{left_at, waiting_in};
+ghost use Rattle.ca_client_tables.specs.Ends.{left_at};
 
 use crate::channel::is_same;
 use crate::circuit::{ClientCircuit, Connection};
@@ -34,19 +34,22 @@ pub fn let_go(
     }
     forget(order, circuit);
     match circuits.free(circuit) {
-        Some(found) => found.into_left(alloc),
+        Some(found) => {
+            let ClientCircuit { connection, .. } = found;
+            left_of(alloc, connection)
+        }
         None => Pipe::new(alloc),
     }
 }
 
-// It is no longer connected.
+// It is no longer connected. It returns the bytes that waited.
 fn disconnect(alloc: Global, circuits: &mut HeldTable<ClientCircuit>, circuit: Handle) -> Pipe
     ensures left { result ≡ left_at circuits.old circuit }
     ensures gone { circuits.new
         ≡ with_changed (λ d. record d { connection = None }) circuit circuits.old }
 {
     match circuits.by_handle_mut(circuit) {
-        Some(found) => found.disconnect(alloc),
+        Some(found) => left_of(alloc, found.connection.take()),
         None => Pipe::new(alloc),
     }
 }
@@ -56,24 +59,6 @@ fn forget(order: &mut Vec<Handle>, circuit: Handle)
     ensures { order.new.items ≡ filter (λ d. not (same_handle d circuit)) order.old.items }
 {
     order.retain(|other| !is_same(*other, circuit));
-}
-
-impl ClientCircuit {
-    // It is no longer connected. It returns the bytes that waited.
-    fn disconnect(&mut self, alloc: Global) -> Pipe
-        ensures left { result ≡ waiting_in self.old }
-        ensures gone { self.new ≡ record self.old { connection = None } }
-    {
-        left_of(alloc, self.connection.take())
-    }
-
-    // The bytes that waited on it.
-    fn into_left(self, alloc: Global) -> Pipe
-        ensures { result ≡ waiting_in self }
-    {
-        let ClientCircuit { connection, .. } = self;
-        left_of(alloc, connection)
-    }
 }
 
 // The bytes that waited on an end, if there was one.

@@ -165,7 +165,7 @@ fn push_live(channels: &Channels, circuit: Handle, index: usize, room: &mut Vec<
         ≡ room.old.items ++ named_at is_live circuit index channels.now }
     ensures capacity { vec_capacity room.new ≡ vec_capacity room.old }
 {
-    let Some((handle, channel)) = channels.any_at(index) else {
+    let Some((handle, channel)) = channels.at(index) else {
         return;
     };
     if !channel.is_live_on(circuit) {

@@ -6,9 +6,9 @@ ghost use Rattle.ca_client_tables.specs.Noting.{NotesAll, NotesOne, creation_in}
 ghost use Rattle.ca_client_tables.specs.Opening.{AreOpening};
 ghost use Rattle.ca_client_tables.specs.Receiving.{half_parts, parts};
 
+use crate::address::Address;
 use crate::channels::Channels;
 use crate::circuit::ClientCircuit;
-use crate::ends::Address;
 use crate::foretelling::{Creation, creation_by};
 use crate::receiving::{Received, receive};
 use crate::undoing::{open_or_undo, undo_all};

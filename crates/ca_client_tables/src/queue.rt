@@ -1,5 +1,5 @@
-//! Messages that wait on a circuit.
-ghost use Rattle.std.specs.Prelude.{◌≡◌, IsSome, OnErr, OnOk, length};
+//! Messages that wait on one circuit of a table.
+ghost use Rattle.std.specs.Prelude.{◌≡◌, OnErr, OnOk, length};
 ghost use Rattle.ca_ids.specs.Table.{with_changed};
 ghost use Rattle.ca_client_tables.specs.Ends.{left_at, queued};
 
@@ -33,23 +33,5 @@ pub(crate) fn waiting_on(circuits: &HeldTable<ClientCircuit>, circuit: Handle) -
     match circuits.by_handle(circuit) {
         Some(found) => found.out_bytes().len(),
         None => 0,
-    }
-}
-
-impl ClientCircuit {
-    /// Puts a message after what waits, if it is connected: only then it allocates. Without
-    /// memory nothing changes.
-    pub fn queue(&mut self, message: &Message) -> Result<(), AllocError>
-        ensures ok { OnOk result (self.new ≡ queued message.now self.old) }
-        ensures err { OnErr result (self.new ≡ self.old) }
-        ensures some { OnErr result (IsSome self.old.connection) }
-    {
-        let Some(connection) = &mut self.connection else {
-            return Ok(());
-        };
-        if connection.link.queue_own(message).is_err() {
-            return Err(AllocError);
-        }
-        Ok(())
     }
 }

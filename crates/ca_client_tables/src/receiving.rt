@@ -5,18 +5,17 @@ ghost use Rattle.ca_client_tables.specs.Opening.{AreOpening};
 ghost use Rattle.ca_client_tables.specs.Receiving.{HearsIn, ReceivesIn, all_settled_in};
 ghost use Rattle.ca_client_tables.specs.Receiving.{boosted_if, half_parts, settled_in};
 
+use crate::address::Address;
 use crate::beacons::{Beacon, beacon_port, hear_beacon};
 use crate::channels::Channels;
 use crate::circuit::ClientCircuit;
-use crate::ends::Address;
-use crate::finding::{Found, find_one, pause_found};
+use crate::finding::{Found, find_one};
+use crate::searches::Searches;
 use ca_arena::Handle;
 use ca_beacon::BeaconTable;
 use ca_ids::HeldTable;
-use ca_search::{Place, boost};
 use ca_text::Command;
 use ca_wire::Message;
-use indexmap::IndexMap;
 use std::alloc::{AllocError, Global};
 
 /// What a message of a datagram did, so that it can be undone.
@@ -85,7 +84,7 @@ fn receive_beacon(
 
 /// The searches follow what was received: those for channels that were found are paused, and after
 /// an anomaly all others begin again.
-pub fn settle(searches: &mut IndexMap<u32, Place>, moment: u64, done: &[Received])
+pub fn settle(searches: &mut Searches, moment: u64, done: &[Received])
     ensures { searches.new.entries ≡ all_settled_in moment done.now searches.old.entries }
 {
     let mut anomaly = false;
@@ -93,20 +92,20 @@ pub fn settle(searches: &mut IndexMap<u32, Place>, moment: u64, done: &[Received
         anomaly = settle_one(searches, received, anomaly);
     }
     if anomaly {
-        boost(searches, moment);
+        searches.boost(moment);
     }
 }
 
 // They follow one more message, except that an anomaly does not yet make them begin again. It says
 // whether there was one so far.
-fn settle_one(searches: &mut IndexMap<u32, Place>, received: &Received, anomaly: bool) -> bool
+fn settle_one(searches: &mut Searches, received: &Received, anomaly: bool) -> bool
     ensures { (moment : ℕ) → boosted_if result moment searches.new.entries
         ≡ settled_in moment received.now (boosted_if anomaly moment searches.old.entries) }
 {
     match *received {
         Received::Nothing => anomaly,
         Received::Found(found) => {
-            pause_found(searches, found.channel);
+            searches.pause(found.channel);
             anomaly
         }
         Received::Beacon(beacon) => anomaly || beacon.anomaly,

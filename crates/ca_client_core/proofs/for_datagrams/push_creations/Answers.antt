@@ -26,7 +26,7 @@ loop-creation-preserved c =
     let all : map sending_of c.loop-creation.sent.items ++ map as_sent (o ∷ rest) ≡ total = subst (λ (z : List Creation). map sending_of c.loop-creation.sent.items ++ map as_sent z ≡ total) steps c.loop-creation.invariant.all in
     record {
       room = omega (arith, room, c.push_reserved.ensures.len, c.push_reserved.ensures.capacity);
-      all = creations-more c.loop-creation.sent.items c.push_reserved.new.self.items _ o rest total c.push_reserved.ensures.items refl all;
+      all = creations-more c.loop-creation.sent.items c.push_reserved.new.self.items _ o rest total c.push_reserved.ensures.items c.of_creation.ensures all;
     }
 
 pub returns : goal.returns

@@ -7,7 +7,7 @@ use Rattle.ca_client_tables.proofs.receiving.settle_one.Goals as goal
 pub returns-in-Found : goal.returns-in-Found
 returns-in-Found c = λ moment.
     let es = c.args.searches.now.entries in
-    ap (boosted_if c.args.anomaly moment) c.pause_found.ensures
+    ap (boosted_if c.args.anomaly moment) c.pause.ensures
     ∙ settled-found c.args.anomaly moment c.in-Found.found es
     ∙ ap (λ (d : Received). settled_in moment d (boosted_if c.args.anomaly moment es)) (sym c.in-Found.is)
 

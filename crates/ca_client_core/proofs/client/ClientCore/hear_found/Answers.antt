@@ -46,11 +46,11 @@ returns-in-Some c =
       beacons = i.beacons;
     } in
     let t : Tables = record { channels = c.find.new.channels; circuits = c.find.new.circuits; order = c.find.new.order.items } in
-    let new : Client = record (with_tables t x) { searches = c.pause_found.new.searches.entries } in
+    let new : Client = record (with_tables t x) { searches = c.pause.new.self.entries } in
     let did : FindsIn (tables_of x) c.args.from (message_of c.args.reply.now []) (Ok (Some c.in-Some.channel)) t =
     subst (λ (o : Option Handle). FindsIn (tables_of x) c.args.from (message_of c.args.reply.now []) (Ok o) t) c.in-Some.is c.in_ok-found.ensures in
     subst (λ (y : Client). FindsOr y c.args.from (message_of c.args.reply.now []) (Ok tt) new) c.self.view_is
-    (heard-found x c.args.from (message_of c.args.reply.now []) (Some c.in-Some.channel) t new did (ap (λ (es : List (ℕ × search.Channel)). record (with_tables t x) { searches = es }) c.pause_found.ensures))
+    (heard-found x c.args.from (message_of c.args.reply.now []) (Some c.in-Some.channel) t new did (ap (λ (es : List (ℕ × search.Channel)). record (with_tables t x) { searches = es }) c.pause.ensures))
 
 pub returns-in_default : goal.returns-in_default
 returns-in_default c =
@@ -91,10 +91,10 @@ invariant_of-self-in-Some c =
       beacons = i.beacons;
     } in
     let t : Tables = record { channels = c.find.new.channels; circuits = c.find.new.circuits; order = c.find.new.order.items } in
-    let new : Client = record (with_tables t x) { searches = c.pause_found.new.searches.entries } in
+    let new : Client = record (with_tables t x) { searches = c.pause.new.self.entries } in
     let did : FindsIn (tables_of x) c.args.from (message_of c.args.reply.now []) (Ok (Some c.in-Some.channel)) t =
     subst (λ (o : Option Handle). FindsIn (tables_of x) c.args.from (message_of c.args.reply.now []) (Ok o) t) c.in-Some.is c.in_ok-found.ensures in
-    let r = heard-found x c.args.from (message_of c.args.reply.now []) (Some c.in-Some.channel) t new did (ap (λ (es : List (ℕ × search.Channel)). record (with_tables t x) { searches = es }) c.pause_found.ensures) in
+    let r = heard-found x c.args.from (message_of c.args.reply.now []) (Some c.in-Some.channel) t new did (ap (λ (es : List (ℕ × search.Channel)). record (with_tables t x) { searches = es }) c.pause.ensures) in
     subst (IsSoundWith i.lives.items) (sym r.3) (sound-found i.lives.items x c.args.from (message_of c.args.reply.now []) r.0 r.1 c.self.invariant)
 
 pub invariant_of-self-in_default : goal.invariant_of-self-in_default

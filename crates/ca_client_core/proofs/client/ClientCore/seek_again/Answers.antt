@@ -14,7 +14,7 @@ invariant_of-self c =
     let h = c.args.channel in
     let i = c.self.inside in
     let es = i.searches.entries in
-    let ns = c.resume.new.searches.entries in
+    let ns = c.resume.new.self.entries in
     let cid : c.number.result ≡ wire_of h = c.number.ensures ∙ c.of.ensures in
     let begins : ns ≡ with_one (resumed i.moment) (wire_of h) es = c.resume.ensures ∙ ap (λ (n : ℕ). with_one (resumed i.moment) n es) cid in
     record {

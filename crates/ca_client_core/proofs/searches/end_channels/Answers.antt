@@ -1,5 +1,0 @@
-use Rattle.ca_client_core.proofs.Quieted.{quiet-zero}
-use Rattle.ca_client_core.proofs.searches.end_channels.Goals as goal
-
-pub invariant_of-searches : goal.invariant_of-searches
-invariant_of-searches c = quiet-zero c.end_channels.new.searches.entries
