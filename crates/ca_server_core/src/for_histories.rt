@@ -1,18 +1,16 @@
 //! Calls for a recorder of histories. No server needs them.
-ghost use Rattle.std.specs.Prelude.{◌≡◌, ◌≢◌, ◌<◌, [], IfOk, OnErr, false, length, option_map};
-ghost use Rattle.ca_dbr.specs.Elements.{elements};
+ghost use Rattle.std.specs.Prelude.{◌≡◌, ◌≢◌, ◌<◌, [], IfOk, OnErr, false, length};
 ghost use Rattle.ca_ids.specs.Table.{same_handle, under};
 ghost use Rattle.ca_records.specs.Puts.{record_named, withdrawn};
 ghost use Rattle.ca_records.specs.Store.{records_of};
 ghost use Rattle.ca_server_circuit.specs.Circuits.{is_open};
 ghost use Rattle.ca_server_core.specs.ForHistories.{ComesBefore, ConcernsUnder, EndsAt, IsOverAt};
 ghost use Rattle.ca_server_core.specs.ForHistories.{SizesUnder, bytes_under, channels_under};
-ghost use Rattle.ca_server_core.specs.ForHistories.{is_over, put_in, value_in};
+ghost use Rattle.ca_server_core.specs.ForHistories.{is_over, put_in};
 ghost use Rattle.ca_server_core.specs.Sound.{IsSound};
 
 use crate::server::ServerCore;
 use ca_arena::Handle;
-use ca_dbr::Value;
 use ca_ids::HeldTable;
 use ca_records::for_histories::waiting_put;
 use ca_records::{Put, ServedRecords};
@@ -143,25 +141,6 @@ pub fn channels_to(
         Some(found) => found.channels_to(core.alloc, name),
         None => Ok(Vec::new(core.alloc)),
     }
-}
-
-/// The value of the record of this name, if there is one.
-pub fn value_of<'a>(core: &'a ServerCore, name: &[u8]) -> Option<&'a Value>
-    ensures { option_map (λ v. elements v.now) result
-        ≡ value_in (record_named core.now.records name.now) }
-{
-    value_among(&core.records, name)
-}
-
-// The value of the record of this name.
-fn value_among<'a>(records: &'a ServedRecords, name: &[u8]) -> Option<&'a Value>
-    ensures { option_map (λ v. elements v.now) result
-        ≡ value_in (record_named (records_of records.now) name.now) }
-{
-    let Some(place) = records.find(name) else {
-        return None;
-    };
-    Some(records.at(place).state().value())
 }
 
 /// The put that waits for the record of this name at this place, if there is one. The one that

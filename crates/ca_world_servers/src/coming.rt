@@ -7,7 +7,6 @@ ghost use Rattle.ca_world_servers.specs.Coming.{Foresees, GivesElements, GivesVa
 use ca_arena::Handle;
 use ca_dbr::{BaseType, Value, convert_to, read_value};
 use ca_server_core::ServerCore;
-use ca_server_core::for_histories::value_of;
 use ca_text::Refusal;
 use ca_wire::{Message, Sid};
 use std::alloc::{AllocError, Global};
@@ -32,14 +31,14 @@ pub fn coming_write(
     let Some(name) = core.served_name(circuit, Sid::new(message.p1())) else {
         return Ok(None);
     };
-    let Some(present) = value_of(core, name) else {
+    let Some(present) = core.record(name) else {
         return Ok(None);
     };
-    let Some(value) = value_in(alloc, message, present.base_type())? else {
+    let Some(given) = value_in(alloc, message, present.value().base_type())? else {
         return Ok(None);
     };
     let name = Vec::from_slice(alloc, name)?;
-    Ok(Some(Coming { name, value }))
+    Ok(Some(Coming { name, value: given }))
 }
 
 // The value that a put of this message writes to a record of this type. None if it is not
