@@ -283,7 +283,7 @@ fn step_end(
     match side.core.step(turn.at) {
         Did::Handled(effect) => tell_step(turn, side, circuits, logs, ahead, spare, effect),
         Did::Closed(_, left) => {
-            let wrote = wrote_of(&side.core, turn.applied, ahead.command, &ahead.write);
+            let wrote = wrote_of(&side.core, turn.applied, &ahead.write);
             close_stepped(turn, side, circuits, logs, wrote, ahead.write, left);
         }
         Did::NeedBytes => {}

@@ -25,7 +25,7 @@ use Rattle.ca_model.specs.Server.{Server, ServerEnd}
 use Rattle.ca_model.specs.ServerSteps.{HasEnd, known_record, knows}
 use Rattle.ca_server_core.specs.Asking.{NamesUnder, state_in}
 use Rattle.ca_world_servers.specs.declared.coming.Coming.{Coming}
-use Rattle.ca_world_servers.specs.Coming.{Foresees, GivesElements, GivesValue}
+use Rattle.ca_world_servers.specs.Coming.{Foresees, GivesElements, GivesValue, busies_by}
 use Rattle.ca_world_servers.proofs.Served.{served-name, unserved}
 
 abbrev plain : BaseType → DataType
@@ -144,12 +144,18 @@ module _ (core : Server) (h : Handle) (m : Fields) where
 
     -- it is this
     module _ (s : RecordState) (known : Some s ≡ state_in (record_named core.records name)) where
+      same-state : (e : ServerEnd) → HasEnd core h e → (c : Serves (knows core e) m.p1) → s ≡ c.known.state
+      same-state e has c = some_is s c.known.state (known ∙ served-state e has c)
+
       based : (e : ServerEnd) → HasEnd core h e → (c : Serves (knows core e) m.p1) → base_of c.known.state.value ≡ base_of s.value
-      based e has c = ap (λ (z : RecordState). base_of z.value) (sym (some_is s c.known.state (known ∙ served-state e has c)))
+      based e has c = ap (λ (z : RecordState). base_of z.value) (sym (same-state e has c))
 
       pub none-given : GivesValue m (base_of s.value) None → Foresees core h m None
       none-given gives e has c v taken = (let wrong = taken-gives m (base_of s.value) None gives (knows core e) c v taken (based e has c) in absurd cc)
 
-      pub write-given : (w : Coming) → w.name.items ≡ name → GivesValue m (base_of s.value) (Some (elements w.value)) → Foresees core h m (Some w)
-      write-given w is gives e has c v taken =
-          (served-name core h m name named e has c ∙ sym is, sym (some_is (elements w.value) v (taken-gives m (base_of s.value) (Some (elements w.value)) gives (knows core e) c v taken (based e has c))))
+      pub write-given : (w : Coming) → w.name.items ≡ name → w.busies ≡ busies_by m s → GivesValue m (base_of s.value) (Some (elements w.value)) → Foresees core h m (Some w)
+      write-given w is busy gives e has c v taken = (
+        served-name core h m name named e has c ∙ sym is,
+        sym (some_is (elements w.value) v (taken-gives m (base_of s.value) (Some (elements w.value)) gives (knows core e) c v taken (based e has c))),
+        busy ∙ ap (λ (z : RecordState). busies_by m z) (same-state e has c),
+      )

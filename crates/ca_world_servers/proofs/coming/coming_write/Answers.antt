@@ -44,4 +44,4 @@ returns c =
     subst (λ (o : Option Value). GivesValue c.args.message.now c.base_type.result (option_map elements o)) c.in-Some-2.is c.in_ok-given.ensures in
     let gives : GivesValue c.args.message.now (base_of s.value) (Some (elements c.in-Some-2.given)) = subst (λ b. GivesValue c.args.message.now b (Some (elements c.in-Some-2.given))) (c.base_type.ensures ∙ ap base_of c.value.ensures.value) given in
     write-given c.args.core.now c.args.circuit c.args.message.now c.in-Some.name.now named s c.in-Some-record.ensures
-    (record { name = c.in_ok-name.name; value = c.in-Some-2.given }) c.in_ok-name.ensures.items gives
+    (record { name = c.in_ok-name.name; value = c.in-Some-2.given; busies = c.makes_busy-busies.result }) c.in_ok-name.ensures.items c.makes_busy-busies.ensures gives
