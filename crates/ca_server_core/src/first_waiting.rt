@@ -10,6 +10,7 @@ ghost use Rattle.ca_server_core.specs.Asking.{state_in, value_busy};
 ghost use Rattle.ca_records.specs.Puts.{record_named};
 
 use crate::server::ServerCore;
+use crate::stepping::is_open;
 use ca_arena::Handle;
 use ca_dbr::Value;
 use ca_records::for_histories::waiting_put;
@@ -43,10 +44,7 @@ impl ServerCore {
     pub fn is_open(&self, circuit: Handle) -> bool
         ensures { result ≡ is_open (under self.now.circuits circuit) }
     {
-        match self.circuits.by_handle(circuit) {
-            Some(found) => found.is_open(),
-            None => false,
-        }
+        is_open(&self.circuits, circuit)
     }
 }
 
