@@ -23,6 +23,3 @@ concerned-so name mask place (Ended w left) queue d = d
 
 pub concerned-there : (name : List ℕ) (mask place : ℕ) (o : Option ServerCircuit) (c : ServerCircuit) (queue : Option ℕ) → o ≡ Some c → ConcernsOn name mask place c queue → ConcernsUnder name mask place o queue
 concerned-there name mask place o c queue there d = subst (λ (z : Option ServerCircuit). ConcernsUnder name mask place z queue) (sym there) (concerned-so name mask place c queue d)
-
-pub concerned-none : (name : List ℕ) (mask place : ℕ) (o : Option ServerCircuit) → o ≡ None → ConcernsUnder name mask place o None
-concerned-none name mask place o there = subst (λ (z : Option ServerCircuit). ConcernsUnder name mask place z None) (sym there) (λ i. None)
