@@ -1,13 +1,11 @@
 //! Calls for a recorder of histories. No server needs them.
-ghost use Rattle.std.specs.Prelude.{◌≡◌, ◌≢◌, ◌<◌, [], IfOk, OnErr, false, length};
-ghost use Rattle.ca_ids.specs.Table.{same_handle, under};
-ghost use Rattle.ca_records.specs.Puts.{record_named, withdrawn};
+ghost use Rattle.std.specs.Prelude.{◌≡◌, ◌≢◌, ◌<◌, [], IfOk, OnErr, length};
+ghost use Rattle.ca_ids.specs.Table.{under};
+ghost use Rattle.ca_records.specs.Puts.{record_named};
 ghost use Rattle.ca_records.specs.Store.{records_of};
-ghost use Rattle.ca_server_circuit.specs.Circuits.{is_open};
 ghost use Rattle.ca_server_core.specs.ForHistories.{ComesBefore, ConcernsUnder, EndsAt, IsOverAt};
 ghost use Rattle.ca_server_core.specs.ForHistories.{SizesUnder, bytes_under, channels_under};
 ghost use Rattle.ca_server_core.specs.ForHistories.{is_over, put_in};
-ghost use Rattle.ca_server_core.specs.Sound.{IsSound};
 
 use crate::server::ServerCore;
 use ca_arena::Handle;
@@ -40,11 +38,7 @@ pub fn ended_at(core: &ServerCore, index: usize) -> Option<Handle>
     requires { index < length core.now.circuits }
     ensures { EndsAt core.now index result }
 {
-    let Some(circuit) = over_at(&core.circuits, index) else {
-        return None;
-    };
-    know_withdrawn(&core.circuits, &core.records, circuit);
-    Some(circuit)
+    over_at(&core.circuits, index)
 }
 
 // The circuit of this index, if its end has ended.
@@ -59,17 +53,6 @@ fn over_at(circuits: &HeldTable<Circuit>, index: usize) -> Option<Handle>
         return None;
     }
     Some(circuit)
-}
-
-// A law: no put waits of a circuit whose end is not open. It does nothing.
-fn know_withdrawn(circuits: &HeldTable<Circuit>, records: &ServedRecords, circuit: Handle)
-    requires { IsSound (records_of records.now) circuits.now }
-    ensures { is_open (under circuits.now circuit) ≡ false
-        → withdrawn (λ p. same_handle p.circuit circuit) (records_of records.now)
-        ≡ records_of records.now }
-{
-    let _ = circuits;
-    let _ = records;
 }
 
 /// The place of the queue that has the subscription at this place of a circuit, if a post to the
