@@ -162,11 +162,15 @@ module _ (before core : Server) (j : Joined) (ks : List Joined) (rs : List Recor
 pub open-steps : (y : Server) (h : Handle) (e : ServerEnd) (did : stepped.Stepped) (new : Server) → HasEnd y h e → stepped.Steps y h did new → StepsOpen y h e did new
 open-steps y h e did new has steps = subst (λ (o : Option ServerCircuit). stepped.StepsAt y h o did new) has steps
 
-pub handled-step : (y : Server) (h : Handle) (e : ServerEnd) (did : Effect) (new : Server) → HasEnd y h e → TellsEffect y h (step.Handled did) new → IsHandled y new h e did
+handled-step : (y : Server) (h : Handle) (e : ServerEnd) (did : Effect) (new : Server) → HasEnd y h e → TellsEffect y h (step.Handled did) new → IsHandled y new h e did
 handled-step y h e did new has tells =
     let s =
     subst (λ (o : Option ServerCircuit). (d : stepped.StepsAt y h o stepped.Handled new) × (did ≡ effect_due (message_at y h new o d) (action_at y h new o d))) has tells in
     record { next = s.0.0; gone = s.0.1; stays = s.0.2; reaches = s.0.3; tells = s.1 }
+
+pub handled-here : (t : SteppingEnd) (before core : Server) (j : Joined) (ks : List Joined) (rs : List RecordSide) (a : Ahead) (did : Effect) (m : MayStep t before j ks rs a) → TellsEffect before t.at (step.Handled did) core → IsHandled before core j.at_server m.e did
+handled-here t before core j ks rs a did m tells =
+    handled-step before j.at_server m.e did core m.has (subst (λ (h : Handle). TellsEffect before h (step.Handled did) core) m.turn.here tells)
 
 module _ (before core : Server) (j : Joined) (ks : List Joined) (rs : List RecordSide) (a : Ahead) (t : SteppingEnd) (m : MayStep t before j ks rs a) where
   -- a server as it was, but for an end that closed, did not write

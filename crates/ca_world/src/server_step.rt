@@ -281,7 +281,10 @@ fn step_end(
     ensures numbers { side.new.circuits.items ≡ side.old.circuits.items }
 {
     match side.core.step(turn.at) {
-        Did::Handled(effect) => tell_step(turn, side, circuits, logs, ahead, spare, effect),
+        Did::Handled(effect) => {
+            let prepared = prepare(turn, &side.core, &mut circuits[turn.circuit], effect, spare);
+            note(turn, side, circuits, logs, ahead, effect, prepared);
+        }
         Did::Closed(_, left) => {
             let wrote = wrote_of(&side.core, turn.applied, &ahead.write);
             close_stepped(turn, side, circuits, logs, wrote, ahead.write, left);
@@ -289,52 +292,6 @@ fn step_end(
         Did::NeedBytes => {}
         Did::OutputFull => {}
     }
-}
-
-// A message was handled, with this effect. There is room for what it leaves.
-fn tell_step(
-    turn: &SteppingEnd,
-    side: &mut ServerSide,
-    circuits: &mut Vec<Joined>,
-    logs: &mut Vec<Vec<LogEntry>>,
-    ahead: Ahead,
-    spare: Spare,
-    effect: Effect,
-)
-    requires within { turn.now.circuit < vec_len circuits.old }
-    requires was { (before : Server) × ((j : model.Joined)
-        → At (map joined_of circuits.old.items) turn.now.circuit j
-        → (m : MayStep turn.now before j (map joined_of circuits.old.items)
-        (map record_of side.old.records.items) ahead)
-        × IsHandled before side.old.core j.at_server m.e effect) }
-    requires served { AreServed
-        side.old.circuits.items
-        (map joined_of circuits.old.items)
-        turn.now.server }
-    requires counts { (w : coming.Coming) → ahead.write ≡ Some w → AllMayCount circuits.old.items }
-    requires notes { (j : opened.Joined)
-        → At circuits.old.items turn.now.circuit j → HasRoomAhead ahead.command j }
-    requires spare { IsSpareFor ahead.reply spare }
-    requires space { MayWaitFor ahead.write side.old.records.items }
-    requires room { HasRoomFor (waits side.old.records.items + 2) side.old.life logs.old.items }
-    ensures steps { (before : Server) (j : model.Joined)
-        → At (map joined_of circuits.old.items) turn.now.circuit j
-        → (m : MayStep turn.now before j (map joined_of circuits.old.items)
-        (map record_of side.old.records.items) ahead)
-        → IsHandled before side.old.core j.at_server m.e effect
-        → StepsAt
-        turn.now.circuit
-        j
-        (record (server_of side.old) { core = before })
-        (map joined_of circuits.old.items)
-        (entries_in logs.old.items)
-        (server_of side.new)
-        (map joined_of circuits.new.items)
-        (entries_in logs.new.items) }
-    ensures numbers { side.new.circuits.items ≡ side.old.circuits.items }
-{
-    let prepared = prepare(turn, &side.core, &mut circuits[turn.circuit], effect, spare);
-    note(turn, side, circuits, logs, ahead, effect, prepared);
 }
 
 // The replies to a message that was handled with this effect, which is begun on its circuit.
