@@ -1,9 +1,8 @@
 //! A moment is handed to a client of the world.
-ghost use Rattle.std.specs.Prelude.{◌≡◌, ◌≢◌, ◌+◌, [], OnErr, OnOk, length, map, true};
+ghost use Rattle.std.specs.Prelude.{◌≡◌, ◌+◌, OnErr, OnOk, length, map, true};
 ghost use Rattle.ca_world_data.specs.Found.{AreNumbered};
 ghost use Rattle.ca_world_data.specs.Logs.{HasRoom, lines_in};
 ghost use Rattle.ca_world_data.specs.Seen.{client_of, joined_of};
-ghost use Rattle.ca_world_data.specs.Sends.{HasRoomForAll};
 ghost use Rattle.ca_world_data.specs.Ticks.{TellsFew, TicksClient};
 
 use crate::client::ClientSide;
@@ -12,7 +11,6 @@ use crate::joined::Joined;
 use crate::logs::reserve_lines;
 use crate::sending::{push_sendings, reserve_sendings};
 use crate::silencing::end_silents;
-use ca_client_core::for_histories::Sending;
 use ca_client_core::for_moments::{Foretold, foretell};
 use std::alloc::AllocError;
 
@@ -43,7 +41,7 @@ pub fn tick_client(
     ensures kept { side.new.circuits.items ≡ side.old.circuits.items }
 {
     let Foretold { sent, ends } = foretell(&mut side.core, moment)?;
-    reserve_sent(client, &side.circuits, circuits, &sent)?;
+    reserve_sendings(client, &side.circuits, circuits, &sent)?;
     reserve_end_lines(side, logs, ends)?;
     match side.core.tick(moment) {
         Ok(ticked) => {
@@ -53,24 +51,6 @@ pub fn tick_client(
         }
         Err(_) => Err(AllocError),
     }
-}
-
-// Makes room for these messages, if there are any.
-fn reserve_sent(
-    client: usize,
-    numbers: &[usize],
-    circuits: &mut Vec<Joined>,
-    sent: &[Sending],
-) -> Result<(), AllocError>
-    requires { AreNumbered numbers.now (map joined_of circuits.old.items) client }
-    ensures same { map joined_of circuits.new.items ≡ map joined_of circuits.old.items }
-    ensures room { OnOk result (HasRoomForAll client sent.now circuits.new.items) }
-    ensures some { OnErr result (sent.now ≢ []) }
-{
-    if sent.is_empty() {
-        return Ok(());
-    }
-    reserve_sendings(client, numbers, circuits, sent)
 }
 
 // Makes room for what ends of the client tell, if any ends.

@@ -16,20 +16,20 @@ use Rattle.ca_world_data.proofs.Momentary.{lacks-sent, numbered-sent, side-same,
 use Rattle.ca_world_data.proofs.Silences.{nothing-told, room-fewer, room-some}
 use Rattle.ca_world_data.proofs.ticking.tick_client.Goals as goal
 
-pub returns-in_err-reserve_sent-clause-ticks : goal.returns-in_err-reserve_sent-clause-ticks
-returns-in_err-reserve_sent-clause-ticks c =
+pub returns-in_err-reserve_sendings-clause-ticks : goal.returns-in_err-reserve_sendings-clause-ticks
+returns-in_err-reserve_sendings-clause-ticks c =
     let x : ClientSide = c.args.side.now in
-    tick-refused c.args.client c.args.moment (client_of x) _ (lines_in c.args.logs.now.items) (lines_in c.args.logs.now.items) (map joined_of c.args.circuits.now.items) (map joined_of c.reserve_sent.new.circuits.items) c.from_residual-in_err-reserve_sent.result c.from_residual-in_err-reserve_sent.ensures.0
-    (lacks-sent x.core c.args.moment c.in_ok-sent.field-0 c.in_ok-sent.ensures.ok (λ none. c.in_err-reserve_sent.ensures.some (c.deref-2.ensures.value ∙ none)))
+    tick-refused c.args.client c.args.moment (client_of x) _ (lines_in c.args.logs.now.items) (lines_in c.args.logs.now.items) (map joined_of c.args.circuits.now.items) (map joined_of c.reserve_sendings.new.circuits.items) c.from_residual-in_err-reserve_sendings.result c.from_residual-in_err-reserve_sendings.ensures.0
+    (lacks-sent x.core c.args.moment c.in_ok-sent.field-0 c.in_ok-sent.ensures.ok (λ none. c.in_err-reserve_sendings.ensures.some (c.deref-2.ensures.value ∙ none)))
     (side-same (client_of x) c.foretell.new.core c.foretell.ensures.same)
     (λ t. lines_in c.args.logs.now.items)
-    c.reserve_sent.ensures.same
+    c.reserve_sendings.ensures.same
 
 pub end_silents-requires-clause-numbered : goal.end_silents-requires-clause-numbered
 end_silents-requires-clause-numbered c =
     let x : ClientSide = c.args.side.now in
     numbered-sent c.args.client (client_of x) _ x.circuits.items (map joined_of c.args.circuits.now.items) (map joined_of c.push_sendings.new.circuits.items) c.requires.numbered
-    (c.push_sendings.ensures ∙ ap (map (sent_up c.args.client (client_of x).names (map sending_of c.in_ok-sent.field-0.sent.items))) c.reserve_sent.ensures.same)
+    (c.push_sendings.ensures ∙ ap (map (sent_up c.args.client (client_of x).names (map sending_of c.in_ok-sent.field-0.sent.items))) c.reserve_sendings.ensures.same)
 
 pub end_silents-requires-clause-room : goal.end_silents-requires-clause-room
 end_silents-requires-clause-room c =
@@ -55,7 +55,7 @@ returns-in-Ok-clause-ticks c =
     tick-done c.args.client c.args.moment (client_of x) (lines_in c.args.logs.now.items) (lines_in c.end_silents.new.logs.items) ks mid (map joined_of c.end_silents.new.circuits.items) a c.in_ok-sent.field-0 c.in-Ok.ensures.0 c.tick.new.self
     c.in_ok-sent.ensures.ok
     does
-    (c.push_sendings.ensures ∙ ap (map (sent_up c.args.client (client_of x).names (map sending_of c.in_ok-sent.field-0.sent.items))) c.reserve_sent.ensures.same)
+    (c.push_sendings.ensures ∙ ap (map (sent_up c.args.client (client_of x).names (map sending_of c.in_ok-sent.field-0.sent.items))) c.reserve_sendings.ensures.same)
     (c.end_silents.ensures.circuits ∙ ap (λ (z : Ticked). map (after_tick c.args.client z.closings) mid) c.ticked.view_is)
     (c.end_silents.ensures.logs
     ∙ ap (grown x.life (lines_of OfCircuit (client_of x).names (notices_of c.ticked.inside.closings.items))) c.reserve_end_lines.ensures.same
