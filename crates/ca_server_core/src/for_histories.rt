@@ -2,7 +2,6 @@
 ghost use Rattle.std.specs.Prelude.{◌≡◌, ◌≢◌, ◌<◌, [], IfOk, OnErr, length};
 ghost use Rattle.ca_ids.specs.Table.{under};
 ghost use Rattle.ca_records.specs.Puts.{record_named};
-ghost use Rattle.ca_records.specs.Store.{records_of};
 ghost use Rattle.ca_server_core.specs.ForHistories.{ComesBefore, ConcernsUnder, EndsAt, IsOverAt};
 ghost use Rattle.ca_server_core.specs.ForHistories.{SizesUnder, bytes_under, channels_under};
 ghost use Rattle.ca_server_core.specs.ForHistories.{is_over, put_in};
@@ -10,8 +9,8 @@ ghost use Rattle.ca_server_core.specs.ForHistories.{is_over, put_in};
 use crate::server::ServerCore;
 use ca_arena::Handle;
 use ca_ids::HeldTable;
+use ca_records::Put;
 use ca_records::for_histories::waiting_put;
-use ca_records::{Put, ServedRecords};
 use ca_server_circuit::Circuit;
 use std::alloc::AllocError;
 
@@ -131,17 +130,10 @@ pub fn channels_to(
 pub fn waiting_at(core: &ServerCore, name: &[u8], place: usize) -> Option<Put>
     ensures { result ≡ put_in (record_named core.now.records name.now) place }
 {
-    waiting_among(&core.records, name, place)
-}
-
-// The put that waits for the record of this name at this place.
-fn waiting_among(records: &ServedRecords, name: &[u8], place: usize) -> Option<Put>
-    ensures { result ≡ put_in (record_named (records_of records.now) name.now) place }
-{
-    let Some(at) = records.find(name) else {
+    let Some(at) = core.records.find(name) else {
         return None;
     };
-    let served = records.at(at);
+    let served = core.records.at(at);
     if place >= served.waits() {
         return None;
     }
