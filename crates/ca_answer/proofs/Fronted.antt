@@ -101,12 +101,6 @@ open-is : (a b : ServerEnd) → (let x : ServerCircuit = Open a in x ≡ Open b)
 open-is a b same = cc
 
 module _ (h : Handle) (b : List ℕ) where
-  abbrev front : Change
-  front = fronted_at h b
-
-  abbrev Real : Server → Server
-  Real y = fronting h b y
-
   -- ---- what is there
 
   own : (c : ServerCircuit) → fronted_at h b h c ≡ fronted b c

@@ -1,5 +1,5 @@
 -- What holds between two messages, message by message and write by write.
-use Rattle.std.proofs.Common.{◌≡◌, ℕ, ◌+◌, ◌<◌, ◌≤◌, ◌⊎◌, inl, inr, true, false, List, [], ◌∷◌, ◌++◌, length, length-append, take, drop, max, Option, Some, refl, sym, ap, ◌∙◌, subst, arith, append_assoc}
+use Rattle.std.proofs.Common.{◌≡◌, ℕ, ◌+◌, ◌<◌, ◌≤◌, ◌⊎◌, inl, inr, true, List, [], ◌∷◌, ◌++◌, length, length-append, take, drop, max, Option, Some, refl, sym, ap, ◌∙◌, subst, arith, append_assoc}
 use Rattle.std.specs.Prelude.{Result, Ok, Err, IsErrAnd}
 use Rattle.std.specs.List.{concat}
 use Rattle.std.proofs.lemmas.List.{append-nil, take-append-drop}
@@ -38,11 +38,6 @@ concat-more [] chunk = append-nil chunk
 concat-more (x ∷ chunks) chunk =
     ap (λ (t : List ℕ). x ++ t) (concat-more chunks chunk) ∙ sym (append_assoc x (concat chunks) chunk)
 
--- the refusal of a fault
-pub device-error : (r : Result (Unit {0}) Refusal) → IsErrAnd r (λ e. e ≡ Device) → r ≡ Err Device
-device-error (Ok x) h = absurd h
-device-error (Err e) h = ap (λ (x : Refusal). Err x) h
-
 -- the same refusal
 pub same-error : {A : Type 0} (r : Result A Refusal) (e : Refusal) → IsErrAnd r (λ x. x ≡ e) → r ≡ Err e
 same-error (Ok x) e h = absurd h
@@ -54,9 +49,6 @@ never-handled e = cc
 
 never-rests : {w : Why} {left : List ℕ} → did.NeedBytes ≡ did.Closed w left → ⊥
 never-rests e = cc
-
-never-full : {w : Why} {left : List ℕ} → did.OutputFull ≡ did.Closed w left → ⊥
-never-full e = cc
 
 same-left : (v w : Why) (a b : List ℕ) → did.Closed v a ≡ did.Closed w b → (v ≡ w) × (a ≡ b)
 same-left v w a b e = (cc, cc)
@@ -314,19 +306,6 @@ module _ {K : Type 0} (takes : K → List ℕ → K → Type 0) (faults : K → 
           subst (λ (z : EngineState). Rested takes rules states k0 bytes k' z) (sym w.0) rested
       go (inr o) = absurd (never-rests (over-reports bytes x s.now s.text s.written.waits did.NeedBytes y s.written.core o step))
 
-  -- so little waits on the circuit that its next message is handled
-  no-room : (k0 k : K) (bytes : List ℕ) (x : EngineState) (y : Server) → x.waiting < output_limit → Serving takes rules states k0 bytes k x → Steps x.core x.circuit did.OutputFull y → ⊥
-  no-room k0 k bytes x y few s step = go s.stands
-    where
-      go : Served rules states bytes x.circuit s.now s.text ⊎ Over rules states bytes x.circuit s.now s.text → ⊥
-      go (inl a) =
-          let r = open-steps bytes x s.now s.text s.written.waits did.OutputFull y s.written.core a step in
-          let full : output_limit ≤ length (s.written.waits ++ a.link.output) = r.0 in
-          let none : length a.link.output ≡ 0 = ap (λ (l : List ℕ). length l) a.quiet in
-          let many : x.waiting ≡ length s.written.waits = s.written.many in
-          omega (arith, full, none, many, few, length-append s.written.waits a.link.output)
-      go (inr o) = never-full (over-reports bytes x s.now s.text s.written.waits did.OutputFull y s.written.core o step)
-
   -- ---- the end of a circuit
 
   -- an end that was served closes for a bad header, or out of memory
@@ -533,10 +512,6 @@ module _ {K : Type 0} (takes : K → List ℕ → K → Type 0) (faults : K → 
           let whole : what_waits mid ≡ s.written.waits = ap what_waits same ∙ front-waits x s.written.waits s.now (record a.e { link = a.link }) s.written.core s.written.many (served-has rules states bytes x.circuit s.now s.text a) in
           subst (λ (w : List ℕ). Waits k0 bytes k w) (sym whole) (serving-waits k0 k bytes x s)
       waits k0 bytes s (inr o) = absurd (never-rests (over-reports bytes x s.now s.text s.written.waits did.NeedBytes y s.written.core o step))
-
-  -- so little waits on the circuit that this does not come
-  pub comes-full : (k : K) (x mid : EngineState) (turns : ℕ) → x.waiting < output_limit → Steps x.core x.circuit did.OutputFull mid.core → Comes takes faults rules states k k x mid turns (Ok false)
-  comes-full k x mid turns few step = (refl, λ k0 bytes s. absurd (no-room k0 k bytes x mid.core few s step))
 
   -- ---- all messages
 

@@ -1,6 +1,5 @@
 -- A message that is handled makes fewer bytes that were not read.
 use Rattle.std.proofs.Common.{◌≡◌, ℕ, ◌<◌, ◌≤◌, ◌++◌, inl, inr, List, length, length-append, Option, Some, None, refl, sym, ap, ◌∙◌, arith}
-use Rattle.std.specs.Prelude.{Result, Ok, Err, OnOk}
 use Rattle.ca_arena.specs.declared.handle.Handle.{Handle}
 use Rattle.ca_ids.specs.Table.{under}
 use Rattle.ca_link.specs.Link.{with_handed, with_rest}
@@ -81,10 +80,3 @@ pub sent-size : (x new : EngineState) → HasSent x new → unread_size new ≡ 
 sent-size x new sent =
     ap (λ (h : Handle). length (unread (under new.core.circuits h))) (ap (λ (z : EngineState). z.circuit) sent.1)
     ∙ ap (λ (b : List ℕ). length b) (sent-same x.core x.circuit (length (what_waits x)) new.core sent.0)
-
--- and so does what is done after it, if it succeeds
-pub fewer-after : {E : Type 0} (x mid new y : EngineState) (r : Result (Unit {0}) E) → x ≡ y → unread_size mid ≤ unread_size x → OnOk r (unread_size new ≤ unread_size mid) → OnOk r (unread_size new ≤ unread_size y)
-fewer-after x mid new y (Ok u) is few after =
-    let same : unread_size x ≡ unread_size y = ap unread_size is in
-    omega (arith, same, few, after)
-fewer-after x mid new y (Err e) is few after = tt

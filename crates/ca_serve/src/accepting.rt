@@ -59,7 +59,6 @@ pub(crate) type Running<L> = IndexMap<u64, JoinHandle<Gathered<L>>>;
 struct Accepted<L: Ledger, D: Device> {
     shared: Arc<SharedServer<L, D>>,
     socket: CircuitSocket,
-    number: u64,
     tally: Tally,
     // Whether the circuit is to be closed at once.
     is_to_end: Arc<AtomicBool>,
@@ -168,7 +167,8 @@ fn looked<L: Ledger, D: Device, R: Wait>(
     (guard.closed, gone, guard.ending)
 }
 
-// A connection for which there is no room is closed: its stream is dropped.
+// A connection for which there is no room is closed: its stream is dropped. So is a circuit for
+// which no thread can be had.
 fn accept_one<
     L: Ledger + Send + Sync + 'static,
     D: Device + Send + Sync + 'static,
@@ -193,7 +193,7 @@ fn accept_one<
 {
     let has_room = running.len() < MOST_CIRCUITS && running.reserve(1).is_ok();
     let taken = if has_room {
-        taken(&rt, alloc, shared, stream, number, running.len())
+        taken(&rt, alloc, shared, stream, running.len())
     } else {
         None
     };
@@ -201,8 +201,16 @@ fn accept_one<
         shared.note_closed();
         return;
     };
+    let Accepted {
+        shared: held,
+        socket,
+        tally,
+        is_to_end,
+        ends,
+    } = accepted;
     let share = all.split_off(1, 0);
-    match start_circuit(rt, accepted, circuit, share) {
+    let work = CircuitThread::new(held, socket, circuit, number, tally, ends, share);
+    match started_or_ended(rt, work, &is_to_end) {
         Ok(handle) => keep(&rt, running, number, handle, all),
         Err(gathered) => {
             shared.note_closed();
@@ -218,10 +226,9 @@ fn taken<L: Ledger, D: Device, R: Wait>(
     alloc: Global,
     shared: &Arc<SharedServer<L, D>>,
     stream: TcpStream,
-    number: u64,
     running: usize,
 ) -> Option<(Accepted<L, D>, Handle)> {
-    let (accepted, parker) = prepared(alloc, shared, number, stream).ok()?;
+    let (accepted, parker) = prepared(alloc, shared, stream).ok()?;
     let circuit = entered(rt, shared, parker, running, &accepted.is_to_end)?;
     Some((accepted, circuit))
 }
@@ -290,7 +297,6 @@ fn entered<L: Ledger, D: Device, R: Wait>(
 fn prepared<L: Ledger, D: Device>(
     alloc: Global,
     shared: &Arc<SharedServer<L, D>>,
-    number: u64,
     stream: TcpStream,
 ) -> Result<(Accepted<L, D>, Arc<Parker>), Refusal> {
     let shared = Arc::try_clone(shared)?;
@@ -300,7 +306,6 @@ fn prepared<L: Ledger, D: Device>(
     let accepted = Accepted {
         shared,
         socket: CircuitSocket::new(alloc, stream, Arc::try_clone(&parker)?)?,
-        number,
         tally,
         ends: Arc::try_clone(&is_to_end)?,
         is_to_end,
@@ -317,37 +322,6 @@ pub(crate) fn new_poll<R: Net>(rt: &R) -> Result<(Poll, Waker), Refusal> {
         Ok(waker) => Ok((poll, waker)),
         Err(_) => Err(Refusal::Device),
     }
-}
-
-// A circuit for which no thread can be had is closed at once.
-fn start_circuit<
-    L: Ledger + Send + Sync + 'static,
-    D: Device + Send + Sync + 'static,
-    R: Threads
-        + Wait
-        + Clock
-        + Net<Stream = net::TcpStream, Listener = net::TcpListener>
-        + Copy
-        + Send
-        + 'static,
->(
-    rt: R,
-    accepted: Accepted<L, D>,
-    circuit: Handle,
-    share: Share<L>,
-) -> Result<JoinHandle<Gathered<L>>, Gathered<L>>
-    requires { share.parts ≡ 1 }
-{
-    let Accepted {
-        shared,
-        socket,
-        number,
-        tally,
-        is_to_end,
-        ends,
-    } = accepted;
-    let work = CircuitThread::new(shared, socket, circuit, number, tally, ends, share);
-    started_or_ended(rt, work, &is_to_end)
 }
 
 // Joins the thread of this number, which is at its end.

@@ -142,7 +142,7 @@ fn serve_as<
             options,
         )?,
     )?;
-    let mut helpers = Vec::with_capacity(alloc, 5)?;
+    let mut helpers = Vec::new(alloc);
     let helped = start_helpers(rt, alloc, &shared, desk, poll, &mut helpers);
     if helped.is_err() {
         shared.end(&rt);
@@ -288,89 +288,31 @@ fn start_helpers<
     helpers: &mut Vec<JoinHandle<()>>,
 ) -> Result<(), Refusal> {
     helpers.reserve(5)?;
-    helpers.push_reserved(start_datagrams(rt, shared, desk)?);
-    helpers.push_reserved(start_poller(rt, alloc, shared, poll)?);
-    helpers.push_reserved(start_ringer(rt, shared)?);
-    helpers.push_reserved(start_processor(rt, shared)?);
-    helpers.push_reserved(start_processor(rt, shared)?);
-    Ok(())
-}
-
-fn start_processor<
-    L: Ledger + Send + Sync + 'static,
-    D: Device + Send + Sync + 'static,
-    R: Threads
-        + Wait
-        + Clock
-        + Net<Stream = net::TcpStream, Listener = net::TcpListener>
-        + Copy
-        + Send
-        + 'static,
->(rt: R, shared: &Arc<SharedServer<L, D>>) -> Result<JoinHandle<()>, Refusal> {
-    let shared = Arc::try_clone(shared)?;
-    started(rt, Processor { shared })
-}
-
-fn start_datagrams<
-    L: Ledger + Send + Sync + 'static,
-    D: Device + Send + Sync + 'static,
-    R: Threads
-        + Wait
-        + Clock
-        + Net<Stream = net::TcpStream, Listener = net::TcpListener>
-        + Copy
-        + Send
-        + 'static,
->(rt: R, shared: &Arc<SharedServer<L, D>>, desk: Desk) -> Result<JoinHandle<()>, Refusal> {
-    let shared = Arc::try_clone(shared)?;
-    let tally = shared.tally()?;
     let datagrams = DatagramThread {
-        shared,
+        shared: Arc::try_clone(shared)?,
         desk,
-        tally,
+        tally: shared.tally()?,
     };
-    started(rt, datagrams)
-}
-
-fn start_poller<
-    L: Ledger + Send + Sync + 'static,
-    D: Device + Send + Sync + 'static,
-    R: Threads
-        + Wait
-        + Clock
-        + Net<Stream = net::TcpStream, Listener = net::TcpListener>
-        + Copy
-        + Send
-        + 'static,
->(
-    rt: R,
-    alloc: Global,
-    shared: &Arc<SharedServer<L, D>>,
-    poll: Poll,
-) -> Result<JoinHandle<()>, Refusal> {
-    let shared = Arc::try_clone(shared)?;
-    let events = Events::with_capacity(alloc, SOCKETS)?;
+    helpers.push_reserved(started(rt, datagrams)?);
     let poller = Poller {
-        shared,
+        shared: Arc::try_clone(shared)?,
         poll,
-        events,
+        events: Events::with_capacity(alloc, SOCKETS)?,
     };
-    started(rt, poller)
-}
-
-fn start_ringer<
-    L: Ledger + Send + Sync + 'static,
-    D: Device + Send + Sync + 'static,
-    R: Threads
-        + Wait
-        + Clock
-        + Net<Stream = net::TcpStream, Listener = net::TcpListener>
-        + Copy
-        + Send
-        + 'static,
->(rt: R, shared: &Arc<SharedServer<L, D>>) -> Result<JoinHandle<()>, Refusal> {
-    let shared = Arc::try_clone(shared)?;
-    started(rt, Ringer { shared })
+    helpers.push_reserved(started(rt, poller)?);
+    let ringer = Ringer {
+        shared: Arc::try_clone(shared)?,
+    };
+    helpers.push_reserved(started(rt, ringer)?);
+    let processor = Processor {
+        shared: Arc::try_clone(shared)?,
+    };
+    helpers.push_reserved(started(rt, processor)?);
+    let another = Processor {
+        shared: Arc::try_clone(shared)?,
+    };
+    helpers.push_reserved(started(rt, another)?);
+    Ok(())
 }
 
 fn join_helpers<R: Threads>(rt: &R, helpers: &mut Vec<JoinHandle<()>>) {

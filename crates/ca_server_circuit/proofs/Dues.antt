@@ -5,10 +5,9 @@ use Rattle.ca_text.specs.Command.{command_number}
 use Rattle.ca_text.specs.declared.command.Command.{Command}
 use Rattle.ca_text.specs.declared.command.Command.TheVariants as command
 use Rattle.ca_wire.specs.Fields.{Fields}
-use Rattle.ca_wire.specs.Messages.{header_only, cancel_reply, cleared_reply, error_reply, status_reply, text_in, version_reply}
+use Rattle.ca_wire.specs.Messages.{header_only, cancel_reply, cleared_reply, status_reply, text_in, version_reply}
 use Rattle.ca_text.specs.Status.{bad_channel}
-use Rattle.ca_model.specs.Ends.{Peer}
-use Rattle.ca_model.specs.Due.{Action, Adds, Applies, Clears, Drops, Due, EventDue, Greets, IsCreated, IsNotCreated, Knows, Names, Nothing, Opens, PutDue, ReadDue, StrayDue, Switches, Waits, WriteDue, is_known, key_in, named, search_due}
+use Rattle.ca_model.specs.Due.{Action, Adds, Applies, Clears, Drops, Due, Greets, IsCreated, IsNotCreated, Knows, Names, Nothing, Opens, ReadDue, StrayDue, Switches, Waits, is_known, key_in, named, search_due}
 use Rattle.ca_model.specs.ServerSteps.{NeedsMemory}
 use Rattle.ca_server_circuit.specs.Handling.{Creates, MayLack, Puts, Reads, Subscribes, Writes}
 
@@ -115,37 +114,8 @@ module _ (m : Fields) where
   needs : (r : List Fields) (a : Action) (x : Fields) (xs : List Fields) → r ≡ x ∷ xs → NeedsMemory m r a
   needs r a x xs is = needs-some r a (λ e. some-reply x xs (sym is ∙ e))
 
-  needs-action : (r : List Fields) (a b : Action) → NeedsMemory m r b → a ≡ b → NeedsMemory m r a
-  needs-action r a b h e = subst (λ (x : Action). NeedsMemory m r x) (sym e) h
-
   stray-needs : (k : Knows) (reply : ℕ → Fields) (r : List Fields) (a : Action) → StrayDue k m reply r a → NeedsMemory m r a
   stray-needs k reply r a s = needs r a (reply s.0) [] s.2
-
-  pub lack-user : (k : Knows) → m.command ≡ command_number command.ClientName → k.settled ≡ false → (text_in m.payload ≡ [] → ⊥) → MayLack k m
-  lack-user k is new some r a due =
-      let p : Peer = record k.peer { user = text_in m.payload } in
-      needs-action r a (Names p) (inl some) ((due.user is).1 ∙ ap (λ (b : Bool). if b then Nothing else Names p) new)
-
-  pub lack-host : (k : Knows) → m.command ≡ command_number command.HostName → k.settled ≡ false → (text_in m.payload ≡ [] → ⊥) → MayLack k m
-  lack-host k is new some r a due =
-      let p : Peer = record k.peer { host = text_in m.payload } in
-      needs-action r a (Names p) (inl some) ((due.host is).1 ∙ ap (λ (b : Bool). if b then Nothing else Names p) new)
-
-  pub lack-version : (k : Knows) → m.command ≡ command_number command.Version → k.greeted ≡ false → MayLack k m
-  lack-version k is new r a due =
-      needs r a version_reply [] ((due.version is).0 ∙ ap (λ (b : Bool). let none : List Fields = [] in if b then none else version_reply ∷ []) new)
-
-  pub lack-search : (k : Knows) → m.command ≡ command_number command.Search → search_due k m ≢ [] → MayLack k m
-  lack-search k is some r a due = needs-some r a (λ e. some (sym (due.search is).0 ∙ e))
-
-  pub lack-echo : (k : Knows) → m.command ≡ command_number command.Echo → MayLack k m
-  lack-echo k is r a due = needs r a (header_only command.Echo) [] (due.echo is).0
-
-  pub lack-cancel : (k : Knows) → m.command ≡ command_number command.EventCancel → MayLack k m
-  lack-cancel k is r a due = needs r a (cancel_reply m) [] (due.cancel is).0
-
-  pub lack-clear : (k : Knows) → m.command ≡ command_number command.ClearChannel → MayLack k m
-  lack-clear k is r a due = needs r a (cleared_reply m) [] (due.clear is).0
 
   pub lack-create : (k : Knows) → m.command ≡ command_number command.CreateChannel → MayLack k m
   lack-create k is r a due = by (due.create is)
@@ -163,37 +133,3 @@ module _ (m : Fields) where
         | inr h ↦ needs-some r a (λ e. some-reply _ _ (sym h.1.4 ∙ e))
       ]
       by (inr s) = stray-needs k (λ cid. status_reply m bad_channel) r a s
-
-  pub lack-write : (k : Knows) → m.command ≡ command_number command.Write → MayLack k m
-  lack-write k is r a due = by (due.write is)
-    where
-      by : WriteDue k m r a ⊎ StrayDue k m (λ cid. error_reply cid bad_channel m) r a → NeedsMemory m r a
-      by (inl d) = elim d.1 [
-        | inl h ↦ needs-some r a (λ e. some-reply _ _ (sym h.2 ∙ e))
-        | inr h ↦ needs-action r a (Applies d.0.channel.name h.0 false) tt h.3
-      ]
-      by (inr s) = stray-needs k (λ cid. error_reply cid bad_channel m) r a s
-
-  put-needs : (r : List Fields) (wait slow : Bool) (name : List ℕ) (value : _) → NeedsMemory m r (if wait then Waits name value else Applies name value slow)
-  put-needs r true slow name value = tt
-  put-needs r false slow name value = tt
-
-  pub lack-put : (k : Knows) → m.command ≡ command_number command.WriteNotify → MayLack k m
-  lack-put k is r a due = by (due.put is)
-    where
-      by : PutDue k m r a ⊎ StrayDue k m (λ cid. status_reply m bad_channel) r a → NeedsMemory m r a
-      by (inl d) = elim d.1 [
-        | inl h ↦ needs-some r a (λ e. some-reply _ _ (sym h.2 ∙ e))
-        | inr h ↦ needs-action r a _ (put-needs r _ _ _ _) h.3
-      ]
-      by (inr s) = stray-needs k (λ cid. status_reply m bad_channel) r a s
-
-  pub lack-subscribe : (k : Knows) → m.command ≡ command_number command.EventAdd → MayLack k m
-  lack-subscribe k is r a due = by (due.subscribe is)
-    where
-      by : EventDue k m r a ⊎ StrayDue k m (λ cid. error_reply cid bad_channel m) r a → NeedsMemory m r a
-      by (inl d) = elim d.1 [
-        | inl h ↦ needs-some r a (λ e. some-reply _ _ (sym h.2 ∙ e))
-        | inr h ↦ needs-action r a _ tt h.2
-      ]
-      by (inr s) = stray-needs k (λ cid. error_reply cid bad_channel m) r a s

@@ -1,6 +1,6 @@
 -- A message that is handled where it came.
 use Rattle.std.proofs.Common.{◌≡◌, ℕ, ◌+◌, ◌<◌, ◌≤◌, Bool, Fits, List, [], ◌∷◌, None, Option, Some, false, true, drop, if◌then◌else◌, inl, inr, length, refl, take, w64, ap, ◌∙◌, subst, sym, arith}
-use Rattle.std.proofs.lemmas.List.{length-drop, length-take-le, take-append-drop, take_at}
+use Rattle.std.proofs.lemmas.List.{length-take-le, take-append-drop, take_at}
 use Rattle.ca_arena.specs.declared.handle.Handle.{Handle}
 use Rattle.ca_dgram.proofs.Readings.{spells-fields_at}
 use Rattle.ca_link.specs.Link.{LinkState, with_rest}
@@ -16,14 +16,11 @@ use Rattle.ca_records.specs.declared.puts.Stamp.{Stamp}
 use Rattle.ca_records.specs.Store.{Store, records_of}
 use Rattle.ca_text.specs.Command.{command_number}
 use Rattle.ca_text.specs.declared.command.Command.TheVariants as command
-use Rattle.ca_text.specs.declared.refusal.Refusal.{Refusal}
-use Rattle.ca_text.specs.declared.refusal.Refusal.TheVariants as refusal
 use Rattle.ca_text.specs.Limits.{output_limit}
 use Rattle.ca_text.specs.Status.{normal}
 use Rattle.ca_wire.specs.Fields.{Fields}
-use Rattle.ca_wire.specs.Message.{header_of, spelled}
-use Rattle.ca_wire.specs.Stream.{BadAt, Held}
-use Rattle.ca_wire.specs.declared.header.Header.{Header}
+use Rattle.ca_wire.specs.Message.{spelled}
+use Rattle.ca_wire.specs.Stream.{Held}
 use Rattle.ca_wire.specs.Messages.{on_channel, status_reply, wanted_in}
 use Rattle.ca_wire.specs.Reading.{IsWhole}
 use Rattle.ca_wire.specs.declared.reading.Head.{Head}
@@ -40,7 +37,7 @@ use Rattle.ca_server_circuit.specs.declared.step.EndStep.TheVariants.{Breaks, Ha
 use Rattle.ca_server_circuit.specs.Handling as here
 use Rattle.ca_server_circuit.specs.Handling.{AllStay, Does, MayLack, Recorded, known, replied}
 use Rattle.ca_server_circuit.specs.Putting.{IsRefused, IsTaken, WritesTo, asked, early}
-use Rattle.ca_server_circuit.specs.Stepping.{BreaksBy, EndSteps, Takes, after_head, cause_for, first_at}
+use Rattle.ca_server_circuit.specs.Stepping.{EndSteps, Takes, after_head, first_at}
 use Rattle.ca_server_circuit.proofs.Stays.{link-kept}
 use Rattle.ca_server_circuit.proofs.Taken.{put_in}
 
@@ -120,15 +117,6 @@ taken-back v e ms n cut was all is =
     ap (λ (x : ServerEnd). let new : ServerEnd = record x { link = cut } in new) was ∙ ap (λ (l : LinkState). let new : ServerEnd = record e { link = l } in new) back
 
 -- ---- the first message
-
--- its header is the one that was read
-pub header-first : (bytes : List ℕ) (head : Head) → IsWhole bytes head → header_of (first_at bytes head) ≡ head.header
-header-first bytes head whole =
-    let room = whole.room in
-    let h = head.header in
-    let made : ℕ → Header = λ n. record { command = h.command; data_type = h.data_type; size = n; count = h.count; p1 = h.p1; p2 = h.p2 } in
-    let long : length (take h.size (drop head.start bytes)) ≡ h.size = length-take-le h.size (drop head.start bytes) (omega (arith, length-drop head.start bytes)) in
-    ap made long
 
 -- what came is as it was after what was done
 kept-input : (s t : Store) (h : Handle) (e new : ServerEnd) (m : Fields) (D : List Fields → Action → Type 0) (did : FollowUp) → Does D s h e m did t new → new.link.input ≡ e.link.input
@@ -229,12 +217,3 @@ steps-first port h s t e mid new head did room whole d gone =
 pub breaks-first : (port : ℕ) (h : Handle) (s t : Store) (e new : ServerEnd) (head : Head) → length e.link.output < output_limit → IsWhole e.link.input.bytes head → AreBytes e.link.input.bytes
     → MayLack (known port s e) (first_at e.link.input.bytes head) → new.link.output ≡ e.link.output → AllStay e.channels new.channels → t ≡ s → EndSteps port h e s (Breaks cause.OutOfMemory) new t
 breaks-first port h s t e new head room whole are lack output stay same = ((takes-first e head room whole, are, lack), output, stay, same)
-
--- an end breaks at a bad header
-pub breaks-bad : (port : ℕ) (s : Store) (e : ServerEnd) (r : Refusal) → length e.link.output < output_limit → BadAt e.link.input.bytes r → BreaksBy port s e (cause_for r)
-breaks-bad port s e refusal.Misaligned room bad = (room, bad)
-breaks-bad port s e refusal.TooLarge room bad = (room, bad)
-breaks-bad port s e _ room bad = elim bad.faults [
-  | inl p ↦ (let is = p.0 in absurd cc)
-  | inr p ↦ (let is = p.0 in absurd cc)
-]

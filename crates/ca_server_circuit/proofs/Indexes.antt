@@ -62,22 +62,6 @@ indexed-open t s n h ch i may new change =
       limit = held-few t h ch may i.limit;
     }
 
--- a CID was put in, and taken out again
-pub indexed-undone : (t : Table OpenChannel) (s mid n : Cids) (cid : ℕ) → IsIndexed t s → (UsesCid t cid → ⊥) → Changes s mid cid true → Changes mid n cid false → IsIndexed t n
-indexed-undone t s mid n cid i new put took =
-    record {
-      sound = λ q used. elim (eqb_tells cid q) [
-        | inl here ↦ absurd (not_both (contains nat_eq n q) used (changed_here mid n cid q false took here.0))
-        | inr there ↦ i.sound q (sym (changed_there mid n cid q false took there.0 ∙ changed_there s mid cid q true put there.0) ∙ used)
-      ];
-      complete = λ g c at. elim (eqb_tells cid c.cid) [
-        | inl here ↦ absurd (new (g, c, at, sym here.1))
-        | inr there ↦ changed_there mid n cid c.cid false took there.0 ∙ changed_there s mid cid c.cid true put there.0 ∙ i.complete g c at
-      ];
-      apart = i.apart;
-      limit = i.limit;
-    }
-
 -- a channel is closed
 pub indexed-close : (t : Table OpenChannel) (s n : Cids) (h : Handle) (ch : OpenChannel) → IsIndexed t s → under t h ≡ Some ch → Changes s n ch.cid false → IsIndexed (with_freed h t) n
 indexed-close t s n h ch i at change =

@@ -1,5 +1,5 @@
 -- What an EVENT_ADD, an EVENT_CANCEL and a CLEAR_CHANNEL make of an end with its subscriptions.
-use Rattle.std.proofs.Common.{◌≡◌, ℕ, inl, inr, Bool, List, [], length, map, Option, None, refl, sym, ap, ◌∙◌, subst, arith}
+use Rattle.std.proofs.Common.{◌≡◌, ℕ, inl, inr, Bool, List, [], length, map, Option, None, refl, sym, ap, ◌∙◌, subst}
 use Rattle.std.proofs.lemmas.List.{length-map}
 use Rattle.ca_arena.specs.declared.handle.Handle.{Handle}
 use Rattle.ca_ids.specs.Table.{Table}
@@ -14,7 +14,7 @@ use Rattle.ca_records.specs.Store.{Store}
 use Rattle.ca_wire.specs.Fields.{Fields}
 use Rattle.ca_model.specs.Due.{Action, Adds, Nothing, fault_of_event, key_in, subscription_in}
 use Rattle.ca_model.specs.Faults.{subscription_fault, type_of}
-use Rattle.ca_model.specs.Server.{OpenChannel, ServerEnd, Subscription, key_of, without_subscriptions}
+use Rattle.ca_model.specs.Server.{OpenChannel, ServerEnd, Subscription, key_of}
 use Rattle.ca_model.specs.ServerSteps.{TakesIn, without_channel}
 use Rattle.ca_model.specs.Speech.{Stored}
 use Rattle.ca_server_circuit.specs.declared.seek.Seat.{Seat}
@@ -23,7 +23,7 @@ use Rattle.ca_server_circuit.specs.Handling.{Does, Replies, Subscribes, known, r
 use Rattle.ca_server_circuit.specs.Seeking.{IsServed}
 use Rattle.ca_server_circuit.specs.declared.effect.Effect.TheVariants as told
 use Rattle.ca_server_circuit.specs.declared.step.FollowUp.TheVariants as effect
-use Rattle.ca_server_circuit.specs.Subscribing.{CanJoin, HasJoined, MayBegin, events_of}
+use Rattle.ca_server_circuit.specs.Subscribing.{HasJoined, events_of}
 use Rattle.ca_server_subscriptions.specs.Subscribed.{Joins, Subscribed, has_key, is_of_sid, without_those}
 use Rattle.ca_server_circuit.proofs.Known.{serves}
 use Rattle.ca_server_circuit.proofs.Taken.{replied-none}
@@ -97,12 +97,6 @@ in-use v e m key b is same asked =
 pub how-many : (v e : ServerEnd) (n : ℕ) → v ≡ e → n ≡ length v.subscriptions → n ≡ length (map key_of e.subscriptions)
 how-many v e n is asked = asked ∙ ap (λ (z : ServerEnd). length z.subscriptions) is ∙ sym (length-map e.subscriptions key_of)
 
-pub can-join : (e : ServerEnd) (m : Fields) (b : Bool) (n : ℕ) → b ≡ is_among (key_in m) (map key_of e.subscriptions) → n ≡ length (map key_of e.subscriptions) → MayBegin b n m → CanJoin e m
-can-join e m b n used many may =
-    let all : length (map key_of e.subscriptions) ≡ length e.subscriptions = length-map e.subscriptions key_of in
-    let few = may.2 in
-    record { askable = may.0; new = sym used ∙ may.1; few = omega (arith, many, all, few) }
-
 -- the fault of an EVENT_ADD, by what was asked
 pub fault-is : (e : ServerEnd) (m : Fields) (r q : _) (bits : ℕ) (b : Bool) (n : ℕ) (o : Option ℕ) → q ≡ r → b ≡ is_among (key_in m) (map key_of e.subscriptions) → n ≡ length (map key_of e.subscriptions)
     → subscription_fault q bits b n m (type_of m.data_type) ≡ o
@@ -119,10 +113,3 @@ pub cleared-end : (v e : ServerEnd) (new : Subscribed) (t : Table OpenChannel) (
 cleared-end v e new t l ms sid is sent closed dropped =
     (λ i. let x : ServerEnd = record v { link = sent i; channels = closed i; subscriptions = (dropped i).subscriptions; queues = (dropped i).queues } in x)
     ∙ ap (λ (z : ServerEnd). replied ms (without_channel sid z)) is
-
--- those that a test names
-pub dropped-end : (v e : ServerEnd) (new : Subscribed) (l : LinkState) (ms : List Fields) (gone : SubKey → Bool) → v ≡ e → l ≡ with_sent ms v.link → new ≡ without_those gone (events_of v)
-    → (let x : ServerEnd = record v { link = l; subscriptions = new.subscriptions; queues = new.queues } in x) ≡ replied ms (without_subscriptions gone e)
-dropped-end v e new l ms gone is sent dropped =
-    (λ i. let x : ServerEnd = record v { link = sent i; subscriptions = (dropped i).subscriptions; queues = (dropped i).queues } in x)
-    ∙ ap (λ (z : ServerEnd). replied ms (without_subscriptions gone z)) is

@@ -1,6 +1,6 @@
 -- Lines of channels: the place of a channel in one, and what the map that has them leaves.
 use Rattle.std.proofs.Common.{◌≡◌, ℕ, zero, suc, ◌+◌, ◌-◌, ◌<◌, ◌≤◌, inl, inr, Bool, true, false, cond, ltb, List, [], ◌∷◌, ◌++◌, length, get_or, take, drop, Option, Some, None, refl, sym, ap, ◌∙◌, subst, arith, length-append}
-use Rattle.std.specs.Prelude.{IsSome, insert, remove, unwrap_or}
+use Rattle.std.specs.Prelude.{IsSome, remove, unwrap_or}
 use Rattle.std.specs.List.Sorted.{IsPartitionPoint, IsPartitionedBy}
 use Rattle.std.specs.HashMap as hash
 use Rattle.std.specs.HashMap.{HashMap}
@@ -87,14 +87,6 @@ drop-one-more : {X : Type 0} (xs : List X) (y : X) (ys : List X) → drop (suc (
 drop-one-more [] y [] = refl
 drop-one-more [] y (z ∷ ys) = refl
 drop-one-more (x ∷ xs) y ys = drop-one-more xs y ys
-
-pub enters-line : (h : Handle) (old new : List Handle) (r : ℕ) → IsItsPlace h.index old r → new ≡ insert old r h → EntersLine h old new
-enters-line h old new r place is below from parts are rest =
-    is
-    ∙ ap (λ (n : ℕ). insert old n h) (place below from parts are rest)
-    ∙ ap (λ (xs : List Handle). insert xs (length below) h) parts
-    ∙ ap (λ (xs : List Handle). xs ++ h ∷ drop (length below) (below ++ from)) (take-front below from)
-    ∙ ap (λ (xs : List Handle). below ++ h ∷ xs) (drop-front below from)
 
 pub goes-from-line : (h : Handle) (old new : List Handle) (r : ℕ) → IsItsPlace h.index old r → new ≡ remove old r → GoesFromLine h old new
 goes-from-line h old new r place is below from parts are rest =
@@ -231,11 +223,3 @@ module _ {K : Type 0} (bytes : K → List ℕ) where
       by : (b : Bool) → bytes_eq other name ≡ b → channels_in (lines_in bytes n.entries) other ≡ channels_in (lines_in bytes m.entries) other
       by true is = subst (λ (t : List ℕ). channels_in (lines_in bytes n.entries) t ≡ channels_in (lines_in bytes m.entries) t) (sym ((bytes_eq-Decides other name).0 is)) own
       by false is = others-stay m n name None u other is
-
--- the same lines, after what left a line that has none
-pub goes-still : (name : List ℕ) (h : Handle) (old mid new : List (List ℕ × List Handle)) → Goes name h old mid → ((other : List ℕ) → channels_in new other ≡ channels_in mid other) → Goes name h old new
-goes-still name h old mid new goes same =
-    record {
-      own = λ below from parts are rest. same name ∙ goes.own below from parts are rest;
-      stay = λ other miss. same other ∙ goes.stay other miss;
-    }

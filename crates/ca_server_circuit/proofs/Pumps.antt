@@ -1,5 +1,5 @@
 -- Updates leave the queues of an end.
-use Rattle.std.proofs.Common.{◌≡◌, ℕ, zero, suc, take, ◌+◌, ◌-◌, ◌*◌, ◌<◌, ◌≤◌, ◌⊎◌, inl, inr, Bool, true, false, cond, List, [], ◌∷◌, ◌++◌, length, replicate, Option, Some, None, Result, Ok, Err, refl, sym, ap, ◌∙◌, subst, arith}
+use Rattle.std.proofs.Common.{◌≡◌, ℕ, zero, suc, ◌+◌, ◌-◌, ◌*◌, ◌<◌, ◌≤◌, ◌⊎◌, inl, inr, Bool, true, false, cond, List, [], ◌∷◌, ◌++◌, length, replicate, Option, Some, None, Result, Ok, Err, refl, sym, ap, ◌∙◌, subst, arith}
 use Rattle.std.proofs.lemmas.List.{append-nil, length-append}
 use Rattle.std.specs.Prelude.{◌==◌, IfSome, if◌then◌else◌, slice_set}
 use Rattle.std.specs.Int.{to_be_bytes, w64}
@@ -7,17 +7,15 @@ use Rattle.std.specs.List.{FoldsTo}
 use Rattle.std.specs.Result.{IsErr}
 use Rattle.std.specs.declared.alloc.AllocError.{AllocError}
 use Rattle.ca_text.specs.declared.refusal.Refusal.{Refusal}
-use Rattle.ca_text.specs.declared.refusal.Refusal.TheVariants as refusal
 use Rattle.ca_text.specs.Limits.{element_limit, output_limit, payload_limit}
 use Rattle.ca_text.specs.Status.{get_fail, normal}
 use Rattle.ca_text.specs.Place.{At}
-use Rattle.ca_text.proofs.Places.{At-one, At-within, some_is}
+use Rattle.ca_text.proofs.Places.{At-one, At-within}
 use Rattle.ca_dbr.specs.declared.data_type.BaseType.{BaseType}
 use Rattle.ca_dbr.specs.declared.data_type.BaseType.TheVariants as base
 use Rattle.ca_dbr.specs.declared.data_type.DataType.{DataType}
 use Rattle.ca_dbr.specs.declared.data_type.Form.{Form}
 use Rattle.ca_dbr.specs.declared.data_type.Form.TheVariants as form
-use Rattle.ca_dbr.specs.Conversion.{Fails}
 use Rattle.ca_dbr.specs.Scalar.{IsScalar}
 use Rattle.ca_dbr.specs.Elements.{Elements, base_of, bytes_8, count_of}
 use Rattle.ca_dbr.specs.Image.{image}
@@ -270,31 +268,6 @@ module _ (w : Wanted) (v : Stored) (t : DataType) (numbered : type_number t ≡ 
   pub fails-update : (why : Refusal) (m : Fields) → shown v.value (update_count w v) t.base ≡ Err why
       → m ≡ update w.data_type (update_count w v) get_fail w.id (replicate (size_of_image t (update_count w v)) 0) → ShowsTo w v m
   fails-update why m is made = (t, type-of-number t w.data_type numbered, made ∙ sym (ap (λ (r : Result Elements Refusal). update_in w v t r) is))
-
--- why none was written
-pub fails-by : (w : Wanted) (v : Stored) (t : DataType) (numbered : type_number t ≡ w.data_type) (why : Refusal) (m : Fields) → w.data_type ≤ 20 → (why ≡ refusal.OutOfMemory → ⊥)
-    → ((20 < w.data_type) × (why ≡ refusal.BadType)) ⊎ ((x : DataType) × (type_number x ≡ w.data_type) × Fails (shown v.value (update_count w v) x.base) why)
-    → m ≡ update w.data_type (update_count w v) get_fail w.id (replicate (size_of_image t (update_count w v)) 0) → ShowsTo w v m
-fails-by w v t numbered why m typed memory (inl over) made = (let lt = over.0 in absurd (omega (arith, lt, typed)))
-fails-by w v t numbered why m typed memory (inr h) made = by h.2
-  where
-    one : h.0 ≡ t
-    one = some_is h.0 t (sym (type-of-number h.0 w.data_type h.1) ∙ type-of-number t w.data_type numbered)
-
-    by : Fails (shown v.value (update_count w v) h.0.base) why → ShowsTo w v m
-    by (inl is) = fails-update w v t numbered why m (subst (λ (x : DataType). shown v.value (update_count w v) x.base ≡ Err why) one is) made
-    by (inr lacks) = absurd (memory lacks.0)
-
--- zero bytes alone
-pub all-zero : (old : List ℕ) (n k : ℕ) → old ≡ [] → k ≡ 0 → take n old ++ replicate (n - k) 0 ≡ replicate n 0
-all-zero old n k none zero_k = ap (λ (xs : List ℕ). take n xs ++ replicate (n - k) 0) none ∙ ap (λ (xs : List ℕ). xs ++ replicate (n - k) 0) (take-none n) ∙ ap (λ (j : ℕ). let zeros : List ℕ = replicate j 0 in zeros) (less-none n k zero_k)
-  where
-    take-none : (n : ℕ) → (let none : List ℕ = [] in take n none ≡ none)
-    take-none zero = refl
-    take-none (suc n) = refl
-
-    less-none : (n k : ℕ) → k ≡ 0 → n - k ≡ n
-    less-none n k is = omega (arith, is)
 
 -- ---- one element, in its own type
 

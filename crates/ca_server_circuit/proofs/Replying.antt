@@ -1,12 +1,10 @@
 -- What is due for a message on a channel, by what was found of its SID.
 use Rattle.std.proofs.Common.{◌≡◌, ℕ, inl, inr, List, [], ◌∷◌, Option, Some, None, Result, Ok, Err, refl, sym, ap, ◌∙◌, subst}
-use Rattle.std.specs.Prelude.{IfOk, OnErr, OnOk, length, map, take}
-use Rattle.std.proofs.lemmas.List.{take_at}
+use Rattle.std.specs.Prelude.{IfOk, OnErr, OnOk, length, map}
 use Rattle.ca_text.proofs.Places.{At-one, some_is}
 use Rattle.ca_queue.specs.Keys.{is_among}
 use Rattle.ca_records.specs.Puts.{Record}
 use Rattle.ca_records.specs.Record.{RecordState}
-use Rattle.ca_wire.specs.Message.{spelled}
 use Rattle.ca_model.specs.Faults.{read_fault, subscription_fault, type_of}
 use Rattle.ca_text.specs.Command.{command_number}
 use Rattle.ca_text.specs.declared.command.Command.TheVariants as command
@@ -112,14 +110,6 @@ right-is s e v sid seat i bits user host name q state is u h at st n b =
 pub state-is : (s : Store) (e : ServerEnd) (sid : ℕ) (seat : Seat) (i : IsServed s e sid seat) (q : Record) (state : RecordState) → HasAt s seat.place q → state ≡ q.state → state ≡ i.r.state
 state-is s e sid seat i q state at st =
     st ∙ ap (λ (x : Record). x.state) (some_is q i.r (At-one s.slots seat.place (Some q) (Some i.r) at i.at))
-
--- what was queued first is taken back, and this goes out in its place
-pub undone : (v e : ServerEnd) (ms : List Fields) (n : ℕ) (cut last : LinkState) (reply : Fields) → v ≡ replied ms e → n ≡ length e.link.output → (let l : LinkState = record v.link { output = take n v.link.output } in cut ≡ l) → last ≡ with_sent (reply ∷ []) cut → (let new : ServerEnd = record v { link = last } in new) ≡ replied (reply ∷ []) e
-undone v e ms n cut last reply was all is sent =
-    let back : cut ≡ e.link =
-    is ∙ ap (λ (x : ServerEnd). let l : LinkState = record x.link { output = take n x.link.output } in l) was ∙ ap (λ (o : List ℕ). let l : LinkState = record e.link { output = o } in l) (take_at e.link.output (spelled ms) n (sym all)) in
-    let link : last ≡ with_sent (reply ∷ []) e.link = sent ∙ ap (λ (l : LinkState). with_sent (reply ∷ []) l) back in
-    ap (λ (x : ServerEnd). let new : ServerEnd = record x { link = last } in new) was ∙ ap (λ (l : LinkState). let new : ServerEnd = record e { link = l } in new) link
 
 -- EVENT_ADD
 pub stray-event : (port : ℕ) (s : Store) (e new : ServerEnd) (m : Fields) (cid : ℕ) → IsStray e m.p1 cid → new ≡ replied (error_reply cid bad_channel m ∷ []) e → Replies (Subscribes (known port s e) m) e new

@@ -1,12 +1,12 @@
 -- What a read of a record comes to.
-use Rattle.std.proofs.Common.{◌≡◌, ◌==◌, ℕ, zero, suc, List, if◌then◌else◌, ◌<◌, ◌≤◌, ◌||◌, ◌⊎◌, inl, inr, Bool, true, false, not, nat_lt, [], ◌∷◌, length, Option, Some, None, Result, Ok, Err, refl, sym, ap, ◌∙◌, subst, arith}
+use Rattle.std.proofs.Common.{◌≡◌, ◌==◌, ℕ, zero, suc, List, if◌then◌else◌, ◌<◌, ◌≤◌, ◌||◌, ◌⊎◌, inl, inr, Bool, true, false, not, nat_lt, [], ◌∷◌, Option, Some, None, Result, Ok, Err, refl, sym, ap, ◌∙◌, subst, arith}
 use Rattle.std.specs.Option.{IfSome}
-use Rattle.std.proofs.lemmas.Bool.{le-ltb, lt-ltb, ltb-false}
+use Rattle.std.proofs.lemmas.Bool.{le-ltb, lt-ltb}
 use Rattle.ca_text.specs.declared.refusal.Refusal.{Refusal}
 use Rattle.ca_text.specs.declared.refusal.Refusal.TheVariants as refusal
 use Rattle.ca_text.proofs.Places.{some_is}
 use Rattle.ca_text.specs.Limits.{payload_limit}
-use Rattle.ca_text.specs.Status.{bad_count, bad_type, get_fail, no_convert, no_read_access, normal}
+use Rattle.ca_text.specs.Status.{bad_count, get_fail, no_convert, no_read_access, normal}
 use Rattle.std.specs.Int.{to_be_bytes, w64}
 use Rattle.ca_dbr.specs.declared.data_type.BaseType.{BaseType}
 use Rattle.ca_dbr.specs.declared.data_type.BaseType.TheVariants as base
@@ -14,13 +14,10 @@ use Rattle.ca_dbr.specs.declared.data_type.Form.TheVariants as form
 use Rattle.ca_dbr.specs.Scalar.{IsScalar}
 use Rattle.ca_wire.specs.declared.requests.Wanted.{Wanted}
 use Rattle.ca_dbr.specs.declared.data_type.DataType.{DataType}
-use Rattle.ca_dbr.specs.Conversion.{Fails}
-use Rattle.ca_dbr.specs.Elements.{Elements, IsValue, base_of, bytes_8, count_of}
+use Rattle.ca_dbr.specs.Elements.{Elements, base_of, bytes_8, count_of}
 use Rattle.ca_dbr.specs.Image.{image}
 use Rattle.ca_dbr.specs.Shown.{shown}
 use Rattle.ca_dbr.specs.Types.{size_of_image, type_number}
-use Rattle.ca_dbr.proofs.OneReading.{length-image}
-use Rattle.ca_dbr.proofs.Shows.{shown-is}
 use Rattle.ca_records.specs.Faults.{first_fault, has_misfit, lacks_conversion}
 use Rattle.ca_records.specs.Record.{IsRecord, RecordState}
 use Rattle.ca_records.specs.Rules.{may_read}
@@ -29,16 +26,13 @@ use Rattle.ca_wire.specs.Messages.{scalar, read_request, status_reply, value_rep
 use Rattle.ca_model.specs.Faults.{read_count, read_fault, read_shown, too_many, type_of}
 use Rattle.ca_server_circuit.specs.declared.read.ReadSize.{ReadSize}
 use Rattle.ca_server_circuit.specs.Showing.{AnswersRead, IsInOrder, ShowsRead, scalar_reply, status_for}
-use Rattle.ca_server_circuit.proofs.Types.{type-of-none, type-of-number}
+use Rattle.ca_server_circuit.proofs.Types.{type-of-number}
 
 -- the faults of a read in order, by their tests
 abbrev faults : (forbidden many lacks misfit : Bool) → Option ℕ
 faults forbidden many lacks misfit = first_fault ((forbidden, no_read_access) ∷ (many, bad_count) ∷ (lacks, no_convert) ∷ (misfit, get_fail) ∷ [])
 
 module _ (r : RecordState) (rights : ℕ) (m : Fields) where
-  pub fault-type : 20 < m.data_type → read_fault r rights m (type_of m.data_type) ≡ Some bad_type
-  fault-type over = ap (λ (o : Option DataType). read_fault r rights m o) (type-of-none m.data_type over)
-
   abbrev lacks : DataType → Bool
   lacks t = lacks_conversion (read_shown r m t)
 
@@ -90,10 +84,6 @@ module _ (r : RecordState) (rights : ℕ) (m : Fields) where
       by (inl h) = inr (fault-shown shows.t shows.typed right few (Ok h.0) h.1, (shows.t, h.0, shows.typed, h.1, h.2))
       by (inr h) = inl (status_for h.0, fault-shown shows.t shows.typed right few (Err h.0) h.1 ∙ refused-so h.0, h.2)
 
-  -- the first faults but for the elements
-  pub refused-answer : (reply : Fields) (status : ℕ) → read_fault r rights m (type_of m.data_type) ≡ Some status → reply ≡ status_reply m status → AnswersRead r rights m reply
-  refused-answer reply status fault is = inl (status, fault, is)
-
   -- ---- what is too much
 
   pub over-count : (t : DataType) (n : ℕ) → r.count < n → too_many r t n ≡ true
@@ -117,55 +107,6 @@ module _ (r : RecordState) (rights : ℕ) (m : Fields) where
       by : (r.count < n) ⊎ (payload_limit < size_of_image t n) → too_many r t n ≡ true
       by (inl h) = over-count t n h
       by (inr h) = over-size t n h
-
--- what an image has for bytes
-pub image-size : (r : RecordState) (m : Fields) (a : ReadSize) (t : DataType) (e : Elements) → IsInOrder r m a → type_number t ≡ m.data_type → shown r.value a.count t.base ≡ Ok e → IsValue e → (length (image t e r.meta) ≡ a.size) × (count_of e ≡ a.count)
-image-size r m a t e order numbered is valued =
-    let kind = shown-is r.value a.count t.base e is in
-    let same : order.t ≡ t = some_is order.t t (sym order.typed ∙ type-of-number t m.data_type numbered) in (
-      length-image t e r.meta (sym kind.0) valued ∙ ap (λ (n : ℕ). size_of_image t n) (kind.1 ∙ order.count) ∙ ap (λ (x : DataType). size_of_image x (read_count r m)) (sym same) ∙ sym order.size,
-      kind.1,
-    )
-
--- a read that is in order is within the limit
-or-false : (a b : Bool) → (a || b) ≡ false → b ≡ false
-or-false true b h = absurd cc
-or-false false b h = h
-
-pub within-limit : (r : RecordState) (m : Fields) (a : ReadSize) → IsInOrder r m a → a.size ≤ payload_limit
-within-limit r m a order =
-    let few : nat_lt payload_limit (size_of_image order.t (read_count r m)) ≡ false = or-false (nat_lt r.count (read_count r m)) (nat_lt payload_limit (size_of_image order.t (read_count r m))) order.few in
-    let le : size_of_image order.t (read_count r m) ≤ payload_limit = ltb-false payload_limit (size_of_image order.t (read_count r m)) few in
-    let is : a.size ≡ size_of_image order.t (read_count r m) = order.size in
-    omega (arith, le, is)
-
--- what was written shows the read
-pub shows-value : (r : RecordState) (m reply : Fields) (a : ReadSize) (t : DataType) (e : Elements) → IsInOrder r m a → type_number t ≡ m.data_type → shown r.value a.count t.base ≡ Ok e → reply ≡ value_reply m (count_of e) (image t e r.meta) → ShowsRead r m reply
-shows-value r m reply a t e order numbered is replies = record {
-  t = t;
-  typed = type-of-number t m.data_type numbered;
-  shows = inl (e, ap (λ (n : ℕ). shown r.value n t.base) (sym order.count) ∙ is, replies);
-}
-
-pub shows-refusal : (r : RecordState) (m reply : Fields) (a : ReadSize) (t : DataType) (why : Refusal) → IsInOrder r m a → type_number t ≡ m.data_type → shown r.value a.count t.base ≡ Err why → reply ≡ status_reply m (status_for why) → ShowsRead r m reply
-shows-refusal r m reply a t why order numbered is replies = record {
-  t = t;
-  typed = type-of-number t m.data_type numbered;
-  shows = inr (why, ap (λ (n : ℕ). shown r.value n t.base) (sym order.count) ∙ is, replies);
-}
-
--- why nothing was written
-pub shows-fails : (r : RecordState) (m reply : Fields) (a : ReadSize) (why : Refusal) → IsInOrder r m a → (why ≡ refusal.OutOfMemory → ⊥) → reply ≡ status_reply m (status_for why)
-    → ((20 < m.data_type) × (why ≡ refusal.BadType)) ⊎ ((t : DataType) × (type_number t ≡ m.data_type) × Fails (shown r.value a.count t.base) why) → ShowsRead r m reply
-shows-fails r m reply a why order memory replies (inl bad) = absurd (none-typed order.t (sym (type-of-none m.data_type bad.0) ∙ order.typed))
-  where
-    none-typed : (t : DataType) → let none : Option DataType = None in none ≡ Some t → ⊥
-    none-typed t e = cc
-shows-fails r m reply a why order memory replies (inr h) = by h.2
-  where
-    by : Fails (shown r.value a.count h.0.base) why → ShowsRead r m reply
-    by (inl is) = shows-refusal r m reply a h.0 why order h.1 is replies
-    by (inr lacks) = absurd (memory lacks.0)
 
 -- ---- one element, in its own type
 

@@ -2,7 +2,7 @@
 use Rattle.std.proofs.Common.{◌≡◌, ℕ, ◌<◌, ◌%◌, ◌==◌, ◌||◌, inl, inr, Bool, true, false, not, nat_lt, [], ◌∷◌, length, Option, Some, Result, Ok, Err, refl, ap, ◌∙◌}
 use Rattle.std.proofs.lemmas.Bool.{lt-ltb}
 use Rattle.ca_text.specs.declared.refusal.Refusal.{Refusal}
-use Rattle.ca_text.specs.Status.{add_fail, bad_count, bad_type, no_convert, no_read_access}
+use Rattle.ca_text.specs.Status.{add_fail, bad_count, no_convert, no_read_access}
 use Rattle.ca_dbr.specs.declared.data_type.BaseType.{BaseType}
 use Rattle.ca_dbr.specs.declared.data_type.DataType.{DataType}
 use Rattle.ca_dbr.specs.Conversion.{HasConversion, IsFault, converted}
@@ -14,7 +14,6 @@ use Rattle.ca_records.specs.Rules.{may_read}
 use Rattle.ca_wire.specs.Fields.{Fields}
 use Rattle.ca_wire.specs.Messages.{mask_in}
 use Rattle.ca_model.specs.Faults.{subscribed_count, subscription_fault, too_many, type_of}
-use Rattle.ca_server_circuit.proofs.Types.{type-of-none}
 
 -- the faults in order, by their tests
 abbrev five : (forbidden header_only many lacks crowded : Bool) → Option ℕ
@@ -42,9 +41,6 @@ module _ (r : RecordState) (rights : ℕ) (in_use : Bool) (others : ℕ) (m : Fi
 
   abbrev full : Bool
   full = not (nat_lt others 288)
-
-  pub event-type : 20 < m.data_type → told (Some bad_type)
-  event-type over = ap (λ (o : Option DataType). subscription_fault r rights in_use others m o) (type-of-none m.data_type over)
 
   module _ (t : DataType) (typed : type_of m.data_type ≡ Some t) where
     abbrev short : Bool

@@ -101,15 +101,6 @@ module _ {T : Type 0} where
       let at : place_at t g.index ≡ place g v = get_or_from_slice_get t g.index (place g v) blank (under-at t g v is) in
       none-some v (sym may.free ∙ ap (λ (i : ℕ). (place_at t i).value) (sym same) ∙ ap (λ (p : Place T). p.value) at)
 
-  -- nothing has the wire id that is given
-  pub given-fresh : (t : Table T) (g h : Handle) (v : T) → length t ≤ arena_slots → MayGive t h → under t g ≡ Some v → wire_of g ≡ wire_of h → ⊥
-  given-fresh t g h v few may is same =
-      let in_it : g.index < length t = At-within t g.index (place g v) (under-at t g v is) in
-      let slot : h.index < arena_slots = may.slot in
-      let a : wire_of g % 65536 ≡ g.index = wire_of-index g (omega (arith, in_it, few)) in
-      let b : wire_of h % 65536 ≡ h.index = wire_of-index h (omega (arith, slot)) in
-      given-none t g h v may is (sym a ∙ ap (λ (n : ℕ). n % 65536) same ∙ b)
-
   -- two that hold one wire id are one
   pub one-by-wire : (t : Table T) (g h : Handle) (v w : T) → length t ≤ arena_slots → under t g ≡ Some v → under t h ≡ Some w → wire_of g ≡ wire_of h → g ≡ h
   one-by-wire t g h v w few a b same =

@@ -11,7 +11,7 @@ use Rattle.std.proofs.Math.Nat.{eq-or-lt_of_le}
 use Rattle.ca_dbr.specs.Types.{base_number, type_at, type_number}
 use Rattle.ca_dbr.proofs.OneReading.{base_number-one, base_number-small}
 use Rattle.ca_dbr.proofs.Valued.{type_number-small}
-use Rattle.ca_model.specs.Faults.{all_types, base_type_of, base_types, type_of}
+use Rattle.ca_model.specs.Faults.{all_types, base_type_of, type_of}
 
 type-of-parts : (b : BaseType) (f : Form) → let t : DataType = record { base = b; form = f } in type_of (type_number t) ≡ Some t
 type-of-parts base.String form.Plain = refl
@@ -65,9 +65,6 @@ no-base-in [] n over = refl
 no-base-in (b ∷ bs) n over =
     let small : base_number b < 7 = base_number-small b in
     rw (ne_eqb (base_number b) n (λ e. absurd (omega arith))) (no-base-in bs n over)
-
-pub base-of-none : (n : ℕ) → 6 < n → base_type_of n ≡ None
-base-of-none n over = no-base-in base_types n over
 
 -- a type with the number of a base type is that one, plain
 plain-parts : (c b : BaseType) (f : Form) → (let t : DataType = record { base = c; form = f } in type_number t ≡ base_number b) → (let t : DataType = record { base = c; form = f } in let p : DataType = record { base = b; form = form.Plain } in t ≡ p)

@@ -1,6 +1,6 @@
 -- The walk over the channels of a circuit that ends: its puts that wait are
 -- taken out of the records.
-use Rattle.std.proofs.Common.{◌≡◌, ℕ, zero, suc, ◌+◌, ◌<◌, ◌≤◌, ◌==◌, Bool, true, false, not, List, length, cond, Option, Some, None, refl, sym, ap, ◌∙◌, subst, arith}
+use Rattle.std.proofs.Common.{◌≡◌, ℕ, zero, suc, ◌+◌, ◌<◌, ◌≤◌, ◌==◌, Bool, true, false, not, List, length, cond, Some, None, refl, sym, ap, ◌∙◌, subst, arith}
 use Rattle.std.specs.Str.{bytes_eq}
 use Rattle.std.proofs.lemmas.Bool.{eq-eqb, eqb-true}
 use Rattle.std.proofs.lemmas.Option.{get_or_from_slice_get}
@@ -64,18 +64,6 @@ keeps-becomes s u at_place r next w same place q at = by (place == at_place) ref
 
 -- ---- the whole walk
 
-pub walks-none : (h : Handle) (t : Table OpenChannel) (s : Store) → Walks 0 0 h t s s
-walks-none h t s = record { rest = refl; rules = refl; stamp = refl; places = keeps-same s; left = λ from. from }
-
-pub walks-more : (n : ℕ) (h : Handle) (t : Table OpenChannel) (s u v : Store) → Walks 0 n h t s u → Walks n (n + 1) h t u v → Walks 0 (n + 1) h t s v
-walks-more n h t s u v a b = record {
-  rest = b.rest ∙ a.rest;
-  rules = b.rules ∙ a.rules;
-  stamp = b.stamp ∙ a.stamp;
-  places = keeps-both s u v a.places b.places;
-  left = λ from. b.left (a.left from);
-}
-
 pub walks-all : (n : ℕ) (h : Handle) (t : Table OpenChannel) (s u : Store) → ArePuts h (records_of s) t → length t ≤ n → Walks 0 n h t s u → WithdrawsAll h s u
 walks-all n h t s u puts all a = record {
   records = none-of (λ (p : Put). same_handle p.circuit h) (records_of u) (λ i k r w at at'. by i k r w at at' (same_handle w.put.circuit h) refl) ∙ a.rest;
@@ -107,16 +95,9 @@ walks-past n h t s none = record {
   left = λ from i r k w at at' hit. (let p = from i r k w at at' hit in (p.0, p.1, p.2, p.3, next n w.put.channel.index p.4 (λ same. none w.put.channel p.0 i r p.1 same p.3 at p.2)));
 }
 
-pub walks-empty : (n : ℕ) (h : Handle) (t : Table OpenChannel) (s : Store) → (let none : Option (Handle × OpenChannel) = None in none ≡ held_at n (place_at t n)) → Walks n (n + 1) h t s s
-walks-empty n h t s none = walks-past n h t s (λ w c i r is same live at named. none-some (w, c) (none ∙ at-index t n w c is same))
-
 -- the channel of an index is this one
 one-there : (n : ℕ) (t : Table OpenChannel) (g : Handle) (o : OpenChannel) → Some (g, o) ≡ held_at n (place_at t n) → (w : Handle) (c : OpenChannel) → under t w ≡ Some c → w.index ≡ n → c ≡ o
 one-there n t g o is w c at same = (let e : (w, c) ≡ (g, o) = some_is (w, c) (g, o) (sym (is ∙ at-index t n w c at same)) in ap (λ (x : Handle × OpenChannel). x.1) e)
-
-pub walks-retired : (n : ℕ) (h : Handle) (t : Table OpenChannel) (s : Store) (g : Handle) (o : OpenChannel) → Some (g, o) ≡ held_at n (place_at t n) → o.retired ≡ true → Walks n (n + 1) h t s s
-walks-retired n h t s g o is gone =
-    walks-past n h t s (λ w c i r at same live there named. both c.retired (ap (λ (x : OpenChannel). x.retired) (one-there n t g o is w c at same) ∙ gone) live)
 
 pub walks-unnamed : (n : ℕ) (h : Handle) (t : Table OpenChannel) (s : Store) (g : Handle) (o : OpenChannel) → Some (g, o) ≡ held_at n (place_at t n) → record_named (records_of s) o.name ≡ None → Walks n (n + 1) h t s s
 walks-unnamed n h t s g o is none =

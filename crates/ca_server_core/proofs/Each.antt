@@ -2,11 +2,8 @@
 use Rattle.std.proofs.Common.{◌≡◌, ℕ, zero, suc, ◌+◌, Bool, true, false, cond, not, ◌||◌, List, [], ◌∷◌, filter, length, Option, Some, None, refl, sym, ap, ◌∙◌, subst, arith}
 use Rattle.std.specs.Prelude.{option_map}
 use Rattle.ca_arena.specs.declared.handle.Handle.{Handle}
-use Rattle.std.proofs.lemmas.Bool.{eq-eqb}
-use Rattle.std.proofs.lemmas.Option.{get_or_from_slice_get}
-use Rattle.ca_arena.specs.Arena.{Place, blank, place_at}
-use Rattle.ca_ids.specs.Table.{Table, held_at, same_handle, under, with_changed, with_each, with_each_from}
-use Rattle.ca_ids.proofs.Changes.{held-parts}
+use Rattle.ca_arena.specs.Arena.{Place}
+use Rattle.ca_ids.specs.Table.{Table, same_handle, under, with_changed, with_each, with_each_from}
 use Rattle.ca_records.specs.declared.puts.Put.{Put}
 use Rattle.ca_records.specs.Puts.{Record, WaitingPut, withdrawn}
 use Rattle.ca_text.specs.Place.{At}
@@ -59,19 +56,6 @@ module _ {T : Type 0} where
 
   pub each-length : (f : Handle → T → T) (t : Table T) → length (with_each f t) ≡ length t
   each-length f t = each-long 0 f t
-
-  -- what is held at an index
-  pub at-index : (t : Table T) (n : ℕ) (h : Handle) (c : T) → under t h ≡ Some c → h.index ≡ n → held_at n (place_at t n) ≡ Some (h, c)
-  at-index t n h c is same =
-      let at : At t n (place h c) = subst (λ (i : ℕ). At t i (place h c)) same (under-at t h c is) in
-      ap (λ (p : Place T). held_at n p) (get_or_from_slice_get t n (place h c) blank at)
-      ∙ ap (λ (g : Handle). let x : Handle × T = (g, c) in Some x) (handle-is (record { index = n; generation = h.generation }) h (sym same) refl)
-
-  pub index-at : (t : Table T) (n : ℕ) (h : Handle) (c : T) → held_at n (place_at t n) ≡ Some (h, c) → (under t h ≡ Some c) × (h.index ≡ n)
-  index-at t n h c is =
-      let p = place_at t n in
-      let parts = held-parts n p.generation p.value h c is in
-      (subst (λ (g : Handle). under t g ≡ Some c) (sym parts.0) (ap (λ (b : Bool). cond b p.value None) (eq-eqb p.generation p.generation refl) ∙ parts.1), ap (λ (g : Handle). g.index) parts.0)
 
 abbrev Circuits : Type 0
 Circuits = Table ServerCircuit
@@ -157,6 +141,3 @@ puts-fuse a b (w ∷ ws) = by (b w.put) (puts-fuse a b ws)
 pub withdrawn-both : (a b : Put → Bool) (rs : List Record) → withdrawn a (withdrawn b rs) ≡ withdrawn (λ (p : Put). b p || a p) rs
 withdrawn-both a b [] = refl
 withdrawn-both a b (r ∷ rs) = (λ i. (let q : Record = record r { waiting = puts-fuse a b r.waiting i } in q ∷ withdrawn-both a b rs i))
-
-pub withdrawn-ext : (a b : Put → Bool) (rs : List Record) → ((p : Put) → a p ≡ b p) → withdrawn a rs ≡ withdrawn b rs
-withdrawn-ext a b rs same = (λ i. withdrawn (λ (p : Put). same p i) rs)

@@ -53,10 +53,6 @@ use Rattle.ca_server_circuit.proofs.Tables.{changed-back, changed-own, freed-bac
 abbrev Circuits : Type 0
 Circuits = Table ServerCircuit
 
-both : {A : Type 0} (b : Bool) → b ≡ true → b ≡ false → A
-both true p q = absurd cc
-both false p q = absurd cc
-
 open-is : (a b : ServerEnd) → Open a ≡ Open b → a ≡ b
 open-is a b e = cc
 
@@ -309,9 +305,6 @@ module _ (port now n : ℕ) (b : Clock) (s u : Store) (t : Circuits) (h : Handle
 
   the-next : (next : Next y h e) × (next.after ≡ mid) × (next.action ≡ d.1.action) × (next.m ≡ d.0.m)
   the-next = handled-next port now n b s u t (with_changed (λ (x : ServerCircuit). Open new) h t) h e new did d refl
-
-  no-true : {A : Type 0} → false ≡ true → A
-  no-true is = absurd cc
 
   -- it stays open, and nothing else follows or all of it did
   stays-open : (x : Store) (last : Circuits) (result : CoreStep) (final : Circuits) (z : ServerEnd) (gone : Handle → Bool) → gone h ≡ false → under last h ≡ Some (Open z) → Settles last h (length e.link.output) result final → Reaches the-next.0.action gone the-next.0.after (server_of port x now last b k)

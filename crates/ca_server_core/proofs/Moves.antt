@@ -45,9 +45,6 @@ module _ (y : Server) (h : Handle) (after : Table ServerCircuit) where
   no-end : (w : Why) (left : List ℕ) → under y.circuits h ≡ Some (Ended w left) → (e : ServerEnd) → HasEnd y h e → ⊥
   no-end w left there e has = not-ended e w left (some_is (Open e) (Ended w left) (sym has ∙ there))
 
-  same-result : {A : Type 0} (u : Unit {0}) (f : Refusal) → (let a : Result (Unit {0}) Refusal = Ok u in a ≡ Err f) → A
-  same-result u f e = absurd cc
-
   pub gives-of : (bytes : List ℕ) (r : Result (Unit {0}) Refusal) → GivesIn y.circuits h y.moment bytes r after → Gives y h bytes r moved
   gives-of bytes r (inl g) = by g.0 g.1 r g.2 g.3 g.4
     where

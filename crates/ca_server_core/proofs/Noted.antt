@@ -288,12 +288,6 @@ not-handled steps.NeedBytes f is = cc
 not-handled steps.OutputFull f is = cc
 not-handled (steps.Closed w left) f is = cc
 
--- the end of a circuit that is over was closed
-pub over-closed : (o : Option ServerCircuit) (did : Stepped) → is_open o ≡ false → IsReport o did → was_handled did ≡ false
-over-closed None did shut is = ap (λ (d : Stepped). was_handled d) is
-over-closed (Some (Ended w left)) did shut is = ap (λ (d : Stepped). was_handled d) is
-over-closed (Some (Open e)) did shut is = absurd (both-bools true refl shut)
-
 -- an open one stays as it is
 pub open-settles : (t : Circuits) (h : Handle) (waited : ℕ) → is_open (under t h) ≡ true → Settles t h waited (own.Handled told.Quiet) t
 open-settles t h waited opened = (by (under t h) opened, sym (ap (λ (b : Bool). cond b t (with_freed h t)) opened))

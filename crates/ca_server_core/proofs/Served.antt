@@ -1,5 +1,5 @@
 -- A message and its pump by one look-up of the circuit.
-use Rattle.std.proofs.Common.{◌≡◌, ℕ, zero, suc, inl, inr, true, cond, length, List, [], ◌∷◌, Option, Some, None, is_some, slice_set, refl, sym, ap, ◌∙◌}
+use Rattle.std.proofs.Common.{◌≡◌, ℕ, zero, suc, inl, inr, true, cond, List, [], ◌∷◌, Option, Some, None, is_some, slice_set, refl, sym, ap, ◌∙◌}
 use Rattle.std.specs.Prelude.{option_map}
 use Rattle.ca_arena.specs.declared.handle.Handle.{Handle}
 use Rattle.ca_arena.specs.Arena.{Place}
@@ -7,7 +7,7 @@ use Rattle.ca_ids.specs.Table.{Table, under, with_changed}
 use Rattle.ca_records.specs.Store.{Store, records_of}
 use Rattle.ca_text.proofs.Places.{some_is}
 use Rattle.ca_model.specs.Server.{Ended, Open, ServerCircuit, ServerEnd}
-use Rattle.ca_model.specs.ServerSteps.{Rests, output_of}
+use Rattle.ca_model.specs.ServerSteps.{Rests}
 use Rattle.ca_server_circuit.specs.declared.effect.Effect.{Effect}
 use Rattle.ca_server_circuit.specs.declared.step.FollowUp.{FollowUp}
 use Rattle.ca_server_circuit.specs.declared.step.FollowUp.TheVariants as effect
@@ -85,10 +85,6 @@ steps-and-pumps port s v u t h c mid new said there steps pumps = (
   inl (c, mid, there, steps, refl),
   inl (mid, new, changed-own (λ (x : ServerCircuit). mid) t h c there, pumps, sym (changed-twice t h c mid new there)),
 )
-
--- n bytes wait on the circuit that was changed
-pub counted : (n : ℕ) (t : Circuits) (h : Handle) (c new : ServerCircuit) → under t h ≡ Some c → n ≡ length (output_of (Some new)) → n ≡ length (output_of (under (with_changed (λ (x : ServerCircuit). new) h t) h))
-counted n t h c new there counts = counts ∙ ap (λ (o : Option ServerCircuit). length (output_of o)) (sym (changed-own (λ (x : ServerCircuit). new) t h c there))
 
 -- ---- an end that is idle
 

@@ -21,9 +21,6 @@ use Rattle.ca_server_core.proofs.Closing.{not-ended, sound-ended}
 use Rattle.ca_server_core.proofs.Moves.{changed-nothing}
 use Rattle.ca_server_circuit.proofs.Tables.{changed-own}
 
-abbrev Circuits : Type 0
-Circuits = Table ServerCircuit
-
 -- the server of these parts
 abbrev pub made_of : ℕ → List Rule → List Record → Stamp → ℕ → Table ServerCircuit → Clock → ℕ → Server
 made_of port rules rs stamp now t b n = record {

@@ -16,7 +16,7 @@ use Rattle.ca_wire.specs.Fields.{Fields}
 use Rattle.ca_model.specs.Due.{Action, Adds, Applies, Clears, Drops, Due, Greets, Names, Nothing, Opens, Switches, Waits}
 use Rattle.ca_model.specs.Ends as why
 use Rattle.ca_model.specs.Server.{Ended, Open, Server, ServerCircuit, ServerEnd}
-use Rattle.ca_model.specs.ServerSteps.{Acts, Handles, LacksMemory, Next, Reaches, Records, Stepped, Steps, StepsAt, StepsOpen, after_post, closed, counted, is_write, knows, reached, stored_now, with_end, write_mask}
+use Rattle.ca_model.specs.ServerSteps.{Handles, LacksMemory, Next, Records, Stepped, Steps, StepsAt, StepsOpen, closed, is_write, reached, with_end}
 use Rattle.ca_model.specs.ServerSteps as steps
 use Rattle.ca_server_circuit.specs.declared.cause.EndCause.{EndCause}
 use Rattle.ca_server_circuit.specs.declared.cause.EndCause.TheVariants as cause
@@ -153,18 +153,6 @@ module _ (port now n : ℕ) (b : Clock) where
   same-server : (s u : Store) (t after : Table ServerCircuit) → u ≡ s → after ≡ t → server_of port u now after b n ≡ server_of port s now t b n
   same-server s u t after su ta = ap (λ (x : Store). server_of port x now after b n) su ∙ ap (λ (x : Table ServerCircuit). server_of port s now x b n) ta
 
-  idle-steps : (s u : Store) (t after : Table ServerCircuit) (h : Handle) (e new : ServerEnd) → under t h ≡ Some (Open e) → EndSteps port h e s step.NeedBytes new u → after ≡ with_changed (λ (x : ServerCircuit). Open new) h t
-      → Steps (server_of port s now t b n) h steps.NeedBytes (server_of port u now after b n)
-  idle-steps s u t after h e new there did changed =
-      step-at (server_of port s now t b n) h (Open e) steps.NeedBytes (server_of port u now after b n) there
-      (did.0, did.1, did.2, same-server s u t after did.4 (stayed t after h (Open new) (Open e) there changed (ap (λ (x : ServerEnd). Open x) did.3)))
-
-  full-steps : (s u : Store) (t after : Table ServerCircuit) (h : Handle) (e new : ServerEnd) → under t h ≡ Some (Open e) → EndSteps port h e s step.OutputFull new u → after ≡ with_changed (λ (x : ServerCircuit). Open new) h t
-      → Steps (server_of port s now t b n) h steps.OutputFull (server_of port u now after b n)
-  full-steps s u t after h e new there did changed =
-      step-at (server_of port s now t b n) h (Open e) steps.OutputFull (server_of port u now after b n) there
-      (did.0, same-server s u t after did.2 (stayed t after h (Open new) (Open e) there changed (ap (λ (x : ServerEnd). Open x) did.1)))
-
   -- ---- an end closes
 
   -- the server without the circuit and its puts
@@ -269,22 +257,6 @@ full-same port s u t after h (inl g) = by g.0 g.1 g.2 g.3 g.4
 pub still-sound : (s u : Store) (t after : Table ServerCircuit) → (u ≡ s) × (after ≡ t) → IsSound (records_of s) t → IsSound (records_of u) after
 still-sound s u t after e i = subst (λ (x : Table ServerCircuit). IsSound (records_of u) x) (sym e.1) (subst (λ (x : Store). IsSound (records_of x) t) (sym e.0) i)
 
-pub steps-idle : (port now n : ℕ) (b : Clock) (s u : Store) (t after : Table ServerCircuit) (h : Handle) → StepsIn port t h s (Some step.NeedBytes) after u → Steps (server_of port s now t b n) h steps.NeedBytes (server_of port u now after b n)
-steps-idle port now n b s u t after h (inr none) = not-some step.NeedBytes none.1
-steps-idle port now n b s u t after h (inl g) = by g.0 g.1 g.2 g.3 g.4
-  where
-    by : (c new : ServerCircuit) → under t h ≡ Some c → CircuitSteps port h c s (Some step.NeedBytes) new u → after ≡ with_changed (λ (x : ServerCircuit). new) h t → Steps (server_of port s now t b n) h steps.NeedBytes (server_of port u now after b n)
-    by (Open e) new there did changed = idle-steps port now n b s u t after h e did.0 there did.1 (became t after h new (Open did.0) changed did.4)
-    by (Ended w left) new there did changed = not-some step.NeedBytes did.0
-
-pub steps-full : (port now n : ℕ) (b : Clock) (s u : Store) (t after : Table ServerCircuit) (h : Handle) → StepsIn port t h s (Some step.OutputFull) after u → Steps (server_of port s now t b n) h steps.OutputFull (server_of port u now after b n)
-steps-full port now n b s u t after h (inr none) = not-some step.OutputFull none.1
-steps-full port now n b s u t after h (inl g) = by g.0 g.1 g.2 g.3 g.4
-  where
-    by : (c new : ServerCircuit) → under t h ≡ Some c → CircuitSteps port h c s (Some step.OutputFull) new u → after ≡ with_changed (λ (x : ServerCircuit). new) h t → Steps (server_of port s now t b n) h steps.OutputFull (server_of port u now after b n)
-    by (Open e) new there did changed = full-steps port now n b s u t after h e did.0 there did.1 (became t after h new (Open did.0) changed did.4)
-    by (Ended w left) new there did changed = not-some step.OutputFull did.0
-
 -- ---- an end that broke is reported
 
 report-at : (t : Table ServerCircuit) (h : Handle) (c : ServerCircuit) (did : Stepped) → under t h ≡ Some c → IsReport (under t h) did → IsReport (Some c) did
@@ -357,12 +329,6 @@ steps-none port now n b s u t after last h did (inl g) r i = by g.0 g.1 g.2 g.3 
         (report-at after h (Ended w left) (stepped did) found r.0, closed-is port now n b s u t last h w_all gone)
 
 -- ---- the same along the view of the fields
-
-pub viewed-idle : (y : Server) (port now n : ℕ) (b : Clock) (s u : Store) (t after : Table ServerCircuit) (h : Handle) → server_of port s now t b n ≡ y → StepsIn port t h s (Some step.NeedBytes) after u → Steps y h steps.NeedBytes (server_of port u now after b n)
-viewed-idle y port now n b s u t after h is did = subst (λ (x : Server). Steps x h steps.NeedBytes (server_of port u now after b n)) is (steps-idle port now n b s u t after h did)
-
-pub viewed-full : (y : Server) (port now n : ℕ) (b : Clock) (s u : Store) (t after : Table ServerCircuit) (h : Handle) → server_of port s now t b n ≡ y → StepsIn port t h s (Some step.OutputFull) after u → Steps y h steps.OutputFull (server_of port u now after b n)
-viewed-full y port now n b s u t after h is did = subst (λ (x : Server). Steps x h steps.OutputFull (server_of port u now after b n)) is (steps-full port now n b s u t after h did)
 
 pub viewed-broke : (y : Server) (port now n : ℕ) (b : Clock) (s u : Store) (t after last : Table ServerCircuit) (h : Handle) (c : EndCause) (did : CoreStep) → server_of port s now t b n ≡ y → StepsIn port t h s (Some (step.Breaks c)) after u → Reports after h did last → IsSound (records_of s) t → Steps y h (stepped did) (server_of port u now last b n)
 viewed-broke y port now n b s u t after last h c did is g r i =

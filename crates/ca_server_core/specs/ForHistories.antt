@@ -2,7 +2,6 @@
 use Rattle.std.specs.Prelude.{ℕ, ◌≡◌, ◌<◌, ◌≤◌, Bool, true, false, List, [], Option, Some, None}
 use Rattle.std.specs.Prelude.{option_map, slice_get}
 use Rattle.ca_arena.specs.declared.handle.Handle.{Handle}
-use Rattle.ca_dbr.specs.Elements.{Elements}
 use Rattle.ca_ids.specs.Table.{Table, under}
 use Rattle.ca_queue.specs.Circuit.{AreInOne, HasAt}
 use Rattle.ca_records.specs.declared.puts.Put.{Put}
@@ -71,10 +70,6 @@ ComesBefore records name other before =
 abbrev pub channels_under : (name : List ℕ) → Option ServerCircuit → List (ℕ × ℕ)
 channels_under name (Some c) = channels_on name c
 channels_under name None = []
-
--- the value of a record, if it is there
-abbrev pub value_in : Option Record → Option Elements
-value_in r = option_map (λ (r : Record). r.state.value) r
 
 -- the put that waits for a record after n others, if there is one
 abbrev pub put_in : Option Record → (place : ℕ) → Option Put

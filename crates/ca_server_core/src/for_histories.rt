@@ -1,21 +1,16 @@
 //! Calls for a recorder of histories. No server needs them.
-ghost use Rattle.std.specs.Prelude.{◌≡◌, ◌≢◌, ◌<◌, [], IfOk, OnErr, false, length, option_map};
-ghost use Rattle.ca_dbr.specs.Elements.{elements};
-ghost use Rattle.ca_ids.specs.Table.{same_handle, under};
-ghost use Rattle.ca_records.specs.Puts.{record_named, withdrawn};
-ghost use Rattle.ca_records.specs.Store.{records_of};
-ghost use Rattle.ca_server_circuit.specs.Circuits.{is_open};
+ghost use Rattle.std.specs.Prelude.{◌≡◌, ◌≢◌, ◌<◌, [], IfOk, OnErr, length};
+ghost use Rattle.ca_ids.specs.Table.{under};
+ghost use Rattle.ca_records.specs.Puts.{record_named};
 ghost use Rattle.ca_server_core.specs.ForHistories.{ComesBefore, ConcernsUnder, EndsAt, IsOverAt};
 ghost use Rattle.ca_server_core.specs.ForHistories.{SizesUnder, bytes_under, channels_under};
-ghost use Rattle.ca_server_core.specs.ForHistories.{is_over, put_in, value_in};
-ghost use Rattle.ca_server_core.specs.Sound.{IsSound};
+ghost use Rattle.ca_server_core.specs.ForHistories.{is_over, put_in};
 
 use crate::server::ServerCore;
 use ca_arena::Handle;
-use ca_dbr::Value;
 use ca_ids::HeldTable;
+use ca_records::Put;
 use ca_records::for_histories::waiting_put;
-use ca_records::{Put, ServedRecords};
 use ca_server_circuit::Circuit;
 use std::alloc::AllocError;
 
@@ -42,11 +37,7 @@ pub fn ended_at(core: &ServerCore, index: usize) -> Option<Handle>
     requires { index < length core.now.circuits }
     ensures { EndsAt core.now index result }
 {
-    let Some(circuit) = over_at(&core.circuits, index) else {
-        return None;
-    };
-    know_withdrawn(&core.circuits, &core.records, circuit);
-    Some(circuit)
+    over_at(&core.circuits, index)
 }
 
 // The circuit of this index, if its end has ended.
@@ -61,17 +52,6 @@ fn over_at(circuits: &HeldTable<Circuit>, index: usize) -> Option<Handle>
         return None;
     }
     Some(circuit)
-}
-
-// A law: no put waits of a circuit whose end is not open. It does nothing.
-fn know_withdrawn(circuits: &HeldTable<Circuit>, records: &ServedRecords, circuit: Handle)
-    requires { IsSound (records_of records.now) circuits.now }
-    ensures { is_open (under circuits.now circuit) ≡ false
-        → withdrawn (λ p. same_handle p.circuit circuit) (records_of records.now)
-        ≡ records_of records.now }
-{
-    let _ = circuits;
-    let _ = records;
 }
 
 /// The place of the queue that has the subscription at this place of a circuit, if a post to the
@@ -145,41 +125,15 @@ pub fn channels_to(
     }
 }
 
-/// The value of the record of this name, if there is one.
-pub fn value_of<'a>(core: &'a ServerCore, name: &[u8]) -> Option<&'a Value>
-    ensures { option_map (λ v. elements v.now) result
-        ≡ value_in (record_named core.now.records name.now) }
-{
-    value_among(&core.records, name)
-}
-
-// The value of the record of this name.
-fn value_among<'a>(records: &'a ServedRecords, name: &[u8]) -> Option<&'a Value>
-    ensures { option_map (λ v. elements v.now) result
-        ≡ value_in (record_named (records_of records.now) name.now) }
-{
-    let Some(place) = records.find(name) else {
-        return None;
-    };
-    Some(records.at(place).state().value())
-}
-
 /// The put that waits for the record of this name at this place, if there is one. The one that
 /// waits longest is at place 0.
 pub fn waiting_at(core: &ServerCore, name: &[u8], place: usize) -> Option<Put>
     ensures { result ≡ put_in (record_named core.now.records name.now) place }
 {
-    waiting_among(&core.records, name, place)
-}
-
-// The put that waits for the record of this name at this place.
-fn waiting_among(records: &ServedRecords, name: &[u8], place: usize) -> Option<Put>
-    ensures { result ≡ put_in (record_named (records_of records.now) name.now) place }
-{
-    let Some(at) = records.find(name) else {
+    let Some(at) = core.records.find(name) else {
         return None;
     };
-    let served = records.at(at);
+    let served = core.records.at(at);
     if place >= served.waits() {
         return None;
     }

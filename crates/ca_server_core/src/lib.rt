@@ -14,7 +14,6 @@ mod finishing;
 mod first_waiting;
 mod following;
 pub mod for_histories;
-pub mod foretelling;
 mod peer;
 mod posting;
 mod pumping;

@@ -1,12 +1,9 @@
 //! Which circuits a change of a record may have reached: for callers that pump or wake only these.
 ghost use Rattle.std.specs.Prelude.{◌≡◌, [], option_copied, unwrap_or};
-ghost use Rattle.ca_records.specs.Puts.{record_named};
-ghost use Rattle.ca_records.specs.Store.{records_of};
-ghost use Rattle.ca_server_core.specs.Asking.{AreAllAmong, busy_circuit, circuit_busy};
+ghost use Rattle.ca_server_core.specs.Asking.{AreAllAmong, busy_circuit};
 
 use crate::server::ServerCore;
 use ca_arena::Handle;
-use ca_records::ServedRecords;
 use ca_records::for_histories::busy_put;
 use ca_server_watchers::RecordWatchers;
 
@@ -30,19 +27,12 @@ impl ServerCore {
     pub fn busy_circuit(&self, name: &[u8]) -> Option<Handle>
         ensures { result ≡ busy_circuit self.now name.now }
     {
-        circuit_of_busy(&self.records, name)
-    }
-}
-
-/// The circuit of the put that makes the record of this name busy.
-fn circuit_of_busy(records: &ServedRecords, name: &[u8]) -> Option<Handle>
-    ensures { result ≡ circuit_busy (record_named (records_of records.now) name.now) }
-{
-    let Some(place) = records.find(name) else {
-        return None;
-    };
-    match busy_put(records.at(place)) {
-        Some(put) => Some(put.circuit),
-        None => None,
+        let Some(place) = self.records.find(name) else {
+            return None;
+        };
+        match busy_put(self.records.at(place)) {
+            Some(put) => Some(put.circuit),
+            None => None,
+        }
     }
 }

@@ -143,12 +143,6 @@ module _ {E : Type 0} where
   refused-none key v refusal.TooManySubscriptions old new h = h.1
   refused-none key v _ old new h = absurd h
 
-  pub may-begin : (key : SubKey) (v : E) (r : Result ℕ Refusal) (old new : List (Queue E)) → Begins old key v r new → MayBegin old key v r new
-  may-begin key v (Ok place) old new b = b
-  may-begin key v (Err refusal.TooManySubscriptions) old new b = b
-  may-begin key v (Err refusal.OutOfMemory) old new b = b.1
-  may-begin key v (Err _) old new b = absurd b
-
   pub on-taken : (on : Bool) (r : Option (ℕ × SubKey × E)) (old new : List (Queue E)) → Takes old r new → AreSwitched on old → AreSwitched on new
   on-taken on None old new t are = subst (AreSwitched on) (sym t.1) are
   on-taken on (Some (place, key, v)) old new t are = subst (AreSwitched on) (sym t.4) (on-set on old place t.0 (with_front_taken t.0) t.1 refl are)
@@ -183,9 +177,6 @@ module _ {E : Type 0} where
       let was : At old i q = subst (λ (qs : List (Queue E)). At qs i q) t.1 at in
       let rests : taken q.events_on q.waiting ≡ None = t.0 i q (At-within old i q was) was in
       front-empty q.waiting (subst (λ (b : Bool). taken b q.waiting ≡ None) (are i q was ∙ is) rests)
-
-  pub empty-rests : (qs now : List (Queue E)) → qs ≡ now → AreEmpty qs → RestBefore now (length now)
-  empty-rests qs now is empty = subst (λ (rs : List (Queue E)). RestBefore rs (length rs)) is (λ i r lt at. idle-rests r (empty i r at))
 
   -- ---- subscriptions stay where they are
 

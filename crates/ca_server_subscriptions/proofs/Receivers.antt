@@ -62,9 +62,6 @@ any-concerned name mask (e ∷ es) =
 
 -- ---- a post
 
-abbrev pub with_one : Stored → List Q → Receiver → List Q
-with_one v qs r = map (queue_posted r.key v) qs
-
 -- what a post does to them is what it does to those that it concerns
 pub posts-all : (name : List ℕ) (mask : ℕ) (v : Stored) (es : Standings) (qs : List Q) → ((i : ℕ) (e : Entry) → At es i e → e.0 ≡ key_of e.1.0)
     → fold (λ (rs : List Q) (r : Receiver). map (queue_posted r.key v) rs) qs (filter (is_masked mask) (receivers_of name es))
@@ -346,22 +343,5 @@ pub only_one-on : (only_one : Option ℕ) (name : List ℕ) (es : Standings) (pl
 only_one-on only_one name es place e s is at on = subst (λ (t : List ℕ). receivers_of t es ≡ receiver_of e ∷ []) ((bytes_eq-Decides e.1.0.name name).0 on) (s place e is at)
 
 module _ (name : List ℕ) (es : Standings) (r : Receiver) (are : receivers_of name es ≡ r ∷ []) where
-  pub only_one-has : (qs : List Q) → ArePlaced es qs → HasAt qs r.queue r.key
-  only_one-has qs p = receiver-has es qs name 0 r p (ap (λ (rs : List Receiver). slice_get rs 0) are)
-
-  pub only_one-posts : (mask : ℕ) (v : Stored) (qs now : List Q) → ((i : ℕ) (e : Entry) → At es i e → e.0 ≡ key_of e.1.0) → now ≡ cond (is_masked mask r) (map (queue_posted r.key v) qs) qs
-      → now ≡ fold (λ (rs : List Q) (x : Subscription). map (queue_posted (key_of x) v) rs) qs (filter (concerns name mask) (subscriptions_in es))
-  only_one-posts mask v qs now keyed did =
-      did ∙ by (is_masked mask r)
-      ∙ ap (λ (rs : List Receiver). fold (λ (zs : List Q) (x : Receiver). map (queue_posted x.key v) zs) qs (filter (is_masked mask) rs)) (sym are)
-      ∙ posts-all name mask v es qs keyed
-    where
-      by : (b : Bool) → cond b (map (queue_posted r.key v) qs) qs ≡ fold (λ (zs : List Q) (x : Receiver). map (queue_posted x.key v) zs) qs (cond b (r ∷ []) [])
-      by true = refl
-      by false = refl
-
   pub only_one-is-on : list_any (is_on name) (subscriptions_in es) ≡ true
   only_one-is-on = any-on name es ∙ ap (λ (rs : List Receiver). list_any (λ (x : Receiver). true) rs) are
-
-  pub only_one-concerned : (mask : ℕ) → is_masked mask r ≡ true → list_any (concerns name mask) (subscriptions_in es) ≡ true
-  only_one-concerned mask masked = any-concerned name mask es ∙ ap (λ (rs : List Receiver). list_any (is_masked mask) rs) are ∙ ap (λ (b : Bool). b || false) masked

@@ -1,11 +1,9 @@
 -- A step of a server's end, if the end closed in it: what is left, from what is told of it.
-use Rattle.std.proofs.Common.{◌≡◌, ◌≢◌, ℕ, ◌&&◌, inl, inr, Bool, true, false, nat_eq, List, Option, Some, None, length, refl, sym, ap, subst, arith, ◌∙◌}
+use Rattle.std.proofs.Common.{◌≡◌, ◌≢◌, ℕ, inl, inr, Bool, true, false, List, Option, Some, None, length, refl, sym, ap, subst, arith, ◌∙◌}
 use Rattle.std.specs.Prelude.{if◌then◌else◌, map, slice_set}
 use Rattle.std.proofs.lemmas.Bool.{le-ltb}
 use Rattle.ca_arena.specs.declared.handle.Handle.{Handle}
 use Rattle.ca_ids.specs.Table.{under, with_freed}
-use Rattle.ca_text.specs.Command.{command_number}
-use Rattle.ca_text.specs.declared.command.Command.TheVariants as command
 use Rattle.ca_text.specs.Place.{At}
 use Rattle.ca_model.specs.Ends as why
 use Rattle.ca_model.specs.Ends.{Why}
@@ -30,7 +28,7 @@ use Rattle.ca_world_data.specs.declared.server.ServerSide.{ServerSide as Side}
 use Rattle.ca_world_data.specs.Numbering.{AllAlike, IsAlike}
 use Rattle.ca_world_data.specs.Seen.{record_of, server_of}
 use Rattle.ca_world_data.proofs.Worlds.{set-same}
-use Rattle.ca_world_servers.specs.Effects.{TellsAction, TellsWrite, is_busy_in, wrote_in}
+use Rattle.ca_world_servers.specs.Effects.{TellsAction, TellsWrite, busies_in, wrote_in}
 use Rattle.ca_world_servers.specs.declared.ahead.Ahead.{Ahead}
 use Rattle.ca_world_data.specs.EndsWith.{ReportsWith, ends_under}
 use Rattle.ca_world_servers.proofs.Dealt.{left_written, wrote-lacks}
@@ -143,10 +141,10 @@ module _ (before core : Server) (j : Joined) (ks : List Joined) (rs : List Recor
   }
 
   -- whether that wrote
-  lacks-wrote : wrote_in core t.applied a.command a.write ≡ left_written l.written l.next.action
+  lacks-wrote : wrote_in core t.applied a.write ≡ left_written l.written l.next.action
   lacks-wrote =
       let ahead = m.ahead l.next in
-      (λ z. wrote_in core (m.turn.applied z) (ahead.command z) a.write)
+      ap (λ (n : ℕ). wrote_in core n a.write) m.turn.applied
       ∙ wrote-lacks before j.at_server m.e m.has m.turn.few l.next l.written l.mid core l.left_is l.leaves a.write ahead.writes
 
   lacks-alike : (wrote : Option Bool) → wrote ≡ left_written l.written l.next.action → (busies : Bool) → wrote ≡ Some busies → AllAlike t.server core ks
@@ -164,25 +162,29 @@ module _ (before core : Server) (j : Joined) (ks : List Joined) (rs : List Recor
 pub open-steps : (y : Server) (h : Handle) (e : ServerEnd) (did : stepped.Stepped) (new : Server) → HasEnd y h e → stepped.Steps y h did new → StepsOpen y h e did new
 open-steps y h e did new has steps = subst (λ (o : Option ServerCircuit). stepped.StepsAt y h o did new) has steps
 
-pub handled-step : (y : Server) (h : Handle) (e : ServerEnd) (did : Effect) (new : Server) → HasEnd y h e → TellsEffect y h (step.Handled did) new → IsHandled y new h e did
+handled-step : (y : Server) (h : Handle) (e : ServerEnd) (did : Effect) (new : Server) → HasEnd y h e → TellsEffect y h (step.Handled did) new → IsHandled y new h e did
 handled-step y h e did new has tells =
     let s =
     subst (λ (o : Option ServerCircuit). (d : stepped.StepsAt y h o stepped.Handled new) × (did ≡ effect_due (message_at y h new o d) (action_at y h new o d))) has tells in
     record { next = s.0.0; gone = s.0.1; stays = s.0.2; reaches = s.0.3; tells = s.1 }
 
+pub handled-here : (t : SteppingEnd) (before core : Server) (j : Joined) (ks : List Joined) (rs : List RecordSide) (a : Ahead) (did : Effect) (m : MayStep t before j ks rs a) → TellsEffect before t.at (step.Handled did) core → IsHandled before core j.at_server m.e did
+handled-here t before core j ks rs a did m tells =
+    handled-step before j.at_server m.e did core m.has (subst (λ (h : Handle). TellsEffect before h (step.Handled did) core) m.turn.here tells)
+
 module _ (before core : Server) (j : Joined) (ks : List Joined) (rs : List RecordSide) (a : Ahead) (t : SteppingEnd) (m : MayStep t before j ks rs a) where
   -- a server as it was, but for an end that closed, did not write
-  unwritten : core ≡ closed j.at_server before → wrote_in core t.applied a.command a.write ≡ None
+  unwritten : core ≡ closed j.at_server before → wrote_in core t.applied a.write ≡ None
   unwritten is =
       let applied : core.applied ≡ t.applied = ap (λ (z : Server). z.applied) is ∙ sym m.turn.applied in
-      ap (λ (b : Bool). if b then Some (nat_eq a.command (command_number command.WriteNotify) && is_busy_in core a.write) else None) (le-ltb t.applied core.applied (omega (arith, applied)))
+      ap (λ (b : Bool). if b then busies_in a.write else None) (le-ltb t.applied core.applied (omega (arith, applied)))
 
   none-some : (b : Bool) → (let n : Option Bool = None in n ≡ Some b) → ⊥
   none-some b e = cc
 
   -- Where the end closed the same subscriptions are at the ends and on the circuits,
   -- if its message wrote.
-  pub closed-alike : (left : List ℕ) (cause : Why) → StepsOpen before j.at_server m.e (stepped.Closed cause left) core → (busies : Bool) → wrote_in core t.applied a.command a.write ≡ Some busies → AllAlike t.server core ks
+  pub closed-alike : (left : List ℕ) (cause : Why) → StepsOpen before j.at_server m.e (stepped.Closed cause left) core → (busies : Bool) → wrote_in core t.applied a.write ≡ Some busies → AllAlike t.server core ks
   closed-alike left why.OutOfMemory steps busies is = lacks-alike before core j ks rs a t m steps.1 _ (lacks-wrote before core j ks rs a t m steps.1) busies is
   closed-alike left why.Misaligned steps busies is = absurd (none-some busies (sym (unwritten steps.3) ∙ is))
   closed-alike left why.TooLarge steps busies is = absurd (none-some busies (sym (unwritten steps.3) ∙ is))
@@ -203,7 +205,7 @@ module _ (t : SteppingEnd) (before : Server) (j : Joined) (y : Side) (ks : List 
       lacks-at t.circuit t.server j m.mine before m.e m.has t.at m.turn.here left left_is y ks at logs y' ks' logs' l a (lacks-done before y.core j ks (map record_of y.records.items) a t m l) wrote is closes
 
   -- for another cause
-  closed-breaks : (cause : Why) → cause ≢ why.OutOfMemory → StepsOpen before j.at_server m.e (stepped.Closed cause left) (closed j.at_server before) → y.core ≡ closed j.at_server before → wrote ≡ wrote_in y.core t.applied a.command a.write → BreaksAt t.circuit j begun ks logs (server_of y') ks' logs'
+  closed-breaks : (cause : Why) → cause ≢ why.OutOfMemory → StepsOpen before j.at_server m.e (stepped.Closed cause left) (closed j.at_server before) → y.core ≡ closed j.at_server before → wrote ≡ wrote_in y.core t.applied a.write → BreaksAt t.circuit j begun ks logs (server_of y') ks' logs'
   closed-breaks cause other steps core is = record {
     e = m.e;
     has = m.has;
@@ -231,7 +233,7 @@ module _ (t : SteppingEnd) (before : Server) (j : Joined) (y : Side) (ks : List 
           (subst (λ (z : Side × (List Joined × List (List Entry))). ReportsWith t.at left t.server z.0 z.1.0 z.1.1 y' ks' logs') (λ n. (told.0 n, (told.1 n, told.2 n))) closes.reports)))
 
   -- The end closed.
-  pub closed-at : (cause : Why) → StepsOpen before j.at_server m.e (stepped.Closed cause left) y.core → wrote ≡ wrote_in y.core t.applied a.command a.write → StepsAt t.circuit j begun ks logs (server_of y') ks' logs'
+  pub closed-at : (cause : Why) → StepsOpen before j.at_server m.e (stepped.Closed cause left) y.core → wrote ≡ wrote_in y.core t.applied a.write → StepsAt t.circuit j begun ks logs (server_of y') ks' logs'
   closed-at why.OutOfMemory steps is = inr (inl (closed-lacks steps.0 steps.1 (is ∙ lacks-wrote before y.core j ks (map record_of y.records.items) a t m steps.1)))
   closed-at why.Misaligned steps is = inr (inr (inl (closed-breaks why.Misaligned (λ is. cc) (steps.0, steps.1, steps.2, refl) steps.3 is)))
   closed-at why.TooLarge steps is = inr (inr (inl (closed-breaks why.TooLarge (λ is. cc) (steps.0, steps.1, steps.2, refl) steps.3 is)))

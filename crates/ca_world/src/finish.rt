@@ -14,8 +14,8 @@ ghost use Rattle.ca_model.specs.Events as event;
 ghost use Rattle.ca_model.specs.ServerEvents.{about, finish_entry};
 ghost use Rattle.ca_model.specs.World.{grown};
 ghost use Rattle.ca_world.specs.Finishing.{AreBehind, Finished, FinishesAt, HasRoomOn, IsBusy};
-ghost use Rattle.ca_world.specs.Finishing.{IsBusyOn, IsFound, MayFinish, TellsFinish, applied_of};
-ghost use Rattle.ca_world.specs.Finishing.{numbered, with_down};
+ghost use Rattle.ca_world.specs.Finishing.{IsBusyOn, IsFound, MayFinish, applied_of, numbered};
+ghost use Rattle.ca_world.specs.Finishing.{with_down};
 ghost use Rattle.ca_world_data.specs.Does.{Does};
 ghost use Rattle.ca_world_data.specs.Numbering.{AllAlike, AllMayCount};
 ghost use Rattle.ca_world_data.specs.Opening.{entries_in};
@@ -107,9 +107,18 @@ fn finish_at(
     let next = first_put(&found.waiting);
     let value = next_value(alloc, logs, side.life, &found.waiting)?;
     reserve_finish(put.circuit, &side.records, side.life, circuits, logs)?;
-    tell_finish(
-        alloc, server, side, circuits, logs, name, put, number, next, value,
+    finish_on(
+        alloc,
+        server,
+        &mut side.core,
+        circuits,
+        name,
+        put,
+        next.is_some(),
     );
+    next_records(&mut side.records, name);
+    tell_entries(logs, side.life, put, number, next, value);
+    report_ends(alloc, server, side, circuits, logs);
     Ok(())
 }
 
@@ -143,60 +152,6 @@ fn reserve_down(joined: &mut Joined) -> Result<(), AllocError>
         < vec_capacity joined.new.lists.down) }
 {
     reserve_list(&mut joined.lists.down, 1)
-}
-
-// All of it, in room that was made.
-fn tell_finish(
-    alloc: Global,
-    server: usize,
-    side: &mut ServerSide,
-    circuits: &mut Vec<Joined>,
-    logs: &mut Vec<Vec<LogEntry>>,
-    name: &[u8],
-    put: PutPlace,
-    number: usize,
-    next: Option<PutPlace>,
-    value: Option<Value>,
-)
-    requires served { AreServed
-        side.old.circuits.items
-        (map joined_of circuits.old.items)
-        server }
-    requires alike { AllAlike server side.old.core (map joined_of circuits.old.items) }
-    requires busy { IsBusyOn
-        side.old.core
-        name.now
-        put.circuit
-        (map joined_of circuits.old.items) }
-    requires counts { AllMayCount circuits.old.items }
-    requires space { HasRoomOn put.circuit circuits.old.items }
-    requires room { HasRoomFor (waits side.old.records.items + 2) side.old.life logs.old.items }
-    ensures { TellsFinish
-        server
-        name.now
-        (place_of put)
-        number
-        (option_map place_of next)
-        (option_map elements value)
-        side.old
-        (map joined_of circuits.old.items)
-        (entries_in logs.old.items)
-        side.new
-        (map joined_of circuits.new.items)
-        (entries_in logs.new.items) }
-{
-    finish_on(
-        alloc,
-        server,
-        &mut side.core,
-        circuits,
-        name,
-        put,
-        next.is_some(),
-    );
-    next_records(&mut side.records, name);
-    tell_entries(logs, side.life, put, number, next, value);
-    report_ends(alloc, server, side, circuits, logs);
 }
 
 // The log has the finish of a put, and the next as applied, if one waits.

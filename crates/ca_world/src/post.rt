@@ -1,16 +1,15 @@
 //! A server posts a value to a record: the log has it, and its number waits in the queue of each
 //! subscription that it concerns.
-ghost use Rattle.std.specs.Prelude.{◌+◌, map};
+ghost use Rattle.std.specs.Prelude.{map};
 ghost use Rattle.ca_dbr.specs.Elements.{elements};
 ghost use Rattle.ca_records.specs.Record.{unset};
 ghost use Rattle.ca_model.specs.Events as event;
 ghost use Rattle.ca_world_data.specs.Does.{Does};
-ghost use Rattle.ca_world_data.specs.Numbering.{AllAlike, AllMayCount};
+ghost use Rattle.ca_world_data.specs.Numbering.{AllAlike};
 ghost use Rattle.ca_world_data.specs.Opening.{entries_in};
-ghost use Rattle.ca_world_data.specs.Posting.{PostsAt, TellsPost};
-ghost use Rattle.ca_world_data.specs.Reporting.{AreServed, waits};
-ghost use Rattle.ca_world_data.specs.Seen.{joined_of, stored_of};
-ghost use Rattle.ca_world_data.specs.ServerCuts.{HasRoomFor};
+ghost use Rattle.ca_world_data.specs.Posting.{PostsAt};
+ghost use Rattle.ca_world_data.specs.Reporting.{AreServed};
+ghost use Rattle.ca_world_data.specs.Seen.{joined_of};
 
 use crate::judging::takes_post;
 use crate::world::World;
@@ -58,8 +57,8 @@ impl World {
     }
 }
 
-// A value is posted at this server. A post that its core refuses changes nothing, and takes no
-// memory.
+// A value is posted at this server: it goes into the log, its numbers wait, and ends that ended by
+// it are reported. A post that its core refuses changes nothing, and takes no memory.
 fn post_at(
     alloc: Global,
     server: usize,
@@ -101,46 +100,12 @@ fn post_at(
                 value: value_told,
                 meta: Meta::ZERO,
             };
-            tell_post(alloc, server, side, circuits, logs, name, told, mask);
+            let number = number_of(name, &side.records);
+            push_entry(logs, side.life, LogEntry::Posted(number, mask, told));
+            post_numbers(server, &side.core, circuits, name, mask);
+            report_ends(alloc, server, side, circuits, logs);
             Ok(())
         }
         Err(_) => Ok(()),
     }
-}
-
-// The core of this server has the post: it goes into the log, its numbers wait, and ends that
-// ended by it are reported.
-fn tell_post(
-    alloc: Global,
-    server: usize,
-    side: &mut ServerSide,
-    circuits: &mut Vec<Joined>,
-    logs: &mut Vec<Vec<LogEntry>>,
-    name: &[u8],
-    told: Stored,
-    mask: u16,
-)
-    requires served { AreServed
-        side.old.circuits.items
-        (map joined_of circuits.old.items)
-        server }
-    requires alike { AllAlike server side.old.core (map joined_of circuits.old.items) }
-    requires counts { AllMayCount circuits.old.items }
-    requires room { HasRoomFor (waits side.old.records.items + 1) side.old.life logs.old.items }
-    ensures { TellsPost
-        server
-        name.now
-        (stored_of told)
-        mask
-        side.old
-        (map joined_of circuits.old.items)
-        (entries_in logs.old.items)
-        side.new
-        (map joined_of circuits.new.items)
-        (entries_in logs.new.items) }
-{
-    let number = number_of(name, &side.records);
-    push_entry(logs, side.life, LogEntry::Posted(number, mask, told));
-    post_numbers(server, &side.core, circuits, name, mask);
-    report_ends(alloc, server, side, circuits, logs);
 }

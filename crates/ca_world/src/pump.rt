@@ -12,7 +12,6 @@ ghost use Rattle.ca_world_data.specs.Updates.{IsReadyToPump, WaitsAlike};
 use crate::cut_server::left_by;
 use crate::world::World;
 use ca_server_core::ServerCore;
-use ca_server_core::foretelling::serves;
 use ca_text::Refusal;
 use ca_wire::Pipe;
 use ca_world_data::closing::close_server;
@@ -98,7 +97,7 @@ fn pump_end(
     let at_server = joined.at_server;
     let waited = core.out_bytes(at_server).len();
     core.pump(at_server);
-    if serves(core, at_server) {
+    if core.is_open(at_server) {
         tell_updates(&core.out_bytes(at_server)[waited..], joined, rooms);
         return None;
     }

@@ -1,15 +1,12 @@
 //! A record of a server is removed: the puts that wait for it are withdrawn, and each circuit loses
 //! its channels to it.
-ghost use Rattle.std.specs.Prelude.{◌+◌, length, map};
+ghost use Rattle.std.specs.Prelude.{map};
 ghost use Rattle.ca_model.specs.Events as event;
-ghost use Rattle.ca_model.specs.World as model;
 ghost use Rattle.ca_world_data.specs.Does.{Does};
 ghost use Rattle.ca_world_data.specs.Opening.{entries_in};
-ghost use Rattle.ca_world_data.specs.Reporting.{AreServed, waits};
-ghost use Rattle.ca_world_data.specs.Seen.{entry_of, joined_of};
-ghost use Rattle.ca_world_data.specs.ServerCuts.{HasRoomFor};
-ghost use Rattle.ca_world_servers.specs.Losing.{AllMayLose, AreLost};
-ghost use Rattle.ca_world_servers.specs.Removing.{AllSeated, Becomes, RemovesAt, TellsRemoval};
+ghost use Rattle.ca_world_data.specs.Reporting.{AreServed};
+ghost use Rattle.ca_world_data.specs.Seen.{joined_of};
+ghost use Rattle.ca_world_servers.specs.Removing.{AllSeated, RemovesAt};
 
 use crate::judging::takes_removal;
 use crate::world::World;
@@ -19,7 +16,7 @@ use ca_world_data::history::LogEntry;
 use ca_world_data::joined::Joined;
 use ca_world_data::reporting::{report_ends, reserve_reports};
 use ca_world_data::server::ServerSide;
-use ca_world_servers::losing::{Leading, forget_record, lose_all, prepare_losses, removal_entries};
+use ca_world_servers::losing::{forget_record, lose_all, prepare_losses, removal_entries};
 use std::alloc::Global;
 
 impl World {
@@ -41,8 +38,9 @@ impl World {
     }
 }
 
-// A record of this server is removed. A removal that its core refuses changes nothing, and takes no
-// memory.
+// A record of this server is removed: that goes into the log, each circuit loses its channels to
+// it, and ends that ended by it are reported. A removal that its core refuses changes nothing, and
+// takes no memory.
 fn remove_at(
     alloc: Global,
     server: usize,
@@ -75,53 +73,12 @@ fn remove_at(
     reserve_reports(logs, side.life, &side.records, told.len())?;
     match side.core.remove_record(name) {
         Ok(()) => {
-            tell_removal(alloc, server, side, circuits, logs, name, told, &leading);
+            push_entries(logs, side.life, told);
+            lose_all(alloc, server, &side.core, circuits, &leading);
+            forget_record(&mut side.records, name);
+            report_ends(alloc, server, side, circuits, logs);
             Ok(())
         }
         Err(_) => Ok(()),
     }
-}
-
-// The core of this server has no such record any more: that goes into the log, each circuit loses
-// its channels to it, and ends that ended by it are reported.
-fn tell_removal(
-    alloc: Global,
-    server: usize,
-    side: &mut ServerSide,
-    circuits: &mut Vec<Joined>,
-    logs: &mut Vec<Vec<LogEntry>>,
-    name: &[u8],
-    told: Vec<LogEntry>,
-    leading: &[Leading],
-)
-    requires becomes { Becomes
-        server
-        side.old.core
-        side.old.circuits.items
-        circuits.old.items
-        (map joined_of circuits.old.items)
-        leading.now }
-    requires may { AllMayLose server side.old.core circuits.old.items leading.now }
-    requires room { HasRoomFor
-        (waits side.old.records.items + length told.items)
-        side.old.life
-        logs.old.items }
-    ensures { (f : model.Joined → model.Joined)
-        → AreLost server side.old.core circuits.old.items leading.now f
-        → TellsRemoval
-        server
-        name.now
-        (map entry_of told.items)
-        f
-        side.old
-        (map joined_of circuits.old.items)
-        (entries_in logs.old.items)
-        side.new
-        (map joined_of circuits.new.items)
-        (entries_in logs.new.items) }
-{
-    push_entries(logs, side.life, told);
-    lose_all(alloc, server, &side.core, circuits, leading);
-    forget_record(&mut side.records, name);
-    report_ends(alloc, server, side, circuits, logs);
 }

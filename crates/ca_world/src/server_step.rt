@@ -16,7 +16,7 @@ ghost use Rattle.ca_world_servers.specs.Losing.{AreSeated};
 ghost use Rattle.ca_world.specs.Counted.{HasEntries};
 ghost use Rattle.ca_world.specs.Resting.{ComesUp, StepsOrRests};
 ghost use Rattle.ca_world.specs.ServerStepping.{StepsAt, with_lists};
-ghost use Rattle.ca_world.specs.StepParts.{AreAside, ClosesWith, HasRoomAhead, IsAheadOf};
+ghost use Rattle.ca_world.specs.StepParts.{AreAside, HasRoomAhead, IsAheadOf};
 ghost use Rattle.ca_world.specs.StepParts.{IsHandled, IsPrepared, IsSpareFor, MayBegin, MayStep};
 ghost use Rattle.ca_world.specs.StepParts.{NotesAt, StandBehind, StepsServer};
 ghost use Rattle.ca_world_data.specs.declared.joined.Joined as opened;
@@ -40,7 +40,6 @@ use crate::world::World;
 use ca_arena::Handle;
 use ca_server_core::{CoreStep as Did, Effect, ServerCore};
 use ca_text::Refusal;
-use ca_wire::Pipe;
 use ca_world_data::ends::ends_at;
 use ca_world_data::history::{LogEntry, Step, Told};
 use ca_world_data::joined::Joined;
@@ -281,60 +280,23 @@ fn step_end(
     ensures numbers { side.new.circuits.items ≡ side.old.circuits.items }
 {
     match side.core.step(turn.at) {
-        Did::Handled(effect) => tell_step(turn, side, circuits, logs, ahead, spare, effect),
+        Did::Handled(effect) => {
+            let prepared = prepare(turn, &side.core, &mut circuits[turn.circuit], effect, spare);
+            note(turn, side, circuits, logs, ahead, effect, prepared);
+        }
         Did::Closed(_, left) => {
-            let wrote = wrote_of(&side.core, turn.applied, ahead.command, &ahead.write);
-            close_stepped(turn, side, circuits, logs, wrote, ahead.write, left);
+            let wrote = wrote_of(&side.core, turn.applied, &ahead.write);
+            let place = circuits[turn.circuit].lists.handled.len();
+            let put = PutPlace {
+                circuit: turn.circuit,
+                place,
+            };
+            tell_write(put, turn.server, side, circuits, logs, wrote, ahead.write);
+            report_ends_with(turn.alloc, turn.server, side, circuits, logs, turn.at, left);
         }
         Did::NeedBytes => {}
         Did::OutputFull => {}
     }
-}
-
-// A message was handled, with this effect. There is room for what it leaves.
-fn tell_step(
-    turn: &SteppingEnd,
-    side: &mut ServerSide,
-    circuits: &mut Vec<Joined>,
-    logs: &mut Vec<Vec<LogEntry>>,
-    ahead: Ahead,
-    spare: Spare,
-    effect: Effect,
-)
-    requires within { turn.now.circuit < vec_len circuits.old }
-    requires was { (before : Server) × ((j : model.Joined)
-        → At (map joined_of circuits.old.items) turn.now.circuit j
-        → (m : MayStep turn.now before j (map joined_of circuits.old.items)
-        (map record_of side.old.records.items) ahead)
-        × IsHandled before side.old.core j.at_server m.e effect) }
-    requires served { AreServed
-        side.old.circuits.items
-        (map joined_of circuits.old.items)
-        turn.now.server }
-    requires counts { (w : coming.Coming) → ahead.write ≡ Some w → AllMayCount circuits.old.items }
-    requires notes { (j : opened.Joined)
-        → At circuits.old.items turn.now.circuit j → HasRoomAhead ahead.command j }
-    requires spare { IsSpareFor ahead.reply spare }
-    requires space { MayWaitFor ahead.write side.old.records.items }
-    requires room { HasRoomFor (waits side.old.records.items + 2) side.old.life logs.old.items }
-    ensures steps { (before : Server) (j : model.Joined)
-        → At (map joined_of circuits.old.items) turn.now.circuit j
-        → (m : MayStep turn.now before j (map joined_of circuits.old.items)
-        (map record_of side.old.records.items) ahead)
-        → IsHandled before side.old.core j.at_server m.e effect
-        → StepsAt
-        turn.now.circuit
-        j
-        (record (server_of side.old) { core = before })
-        (map joined_of circuits.old.items)
-        (entries_in logs.old.items)
-        (server_of side.new)
-        (map joined_of circuits.new.items)
-        (entries_in logs.new.items) }
-    ensures numbers { side.new.circuits.items ≡ side.old.circuits.items }
-{
-    let prepared = prepare(turn, &side.core, &mut circuits[turn.circuit], effect, spare);
-    note(turn, side, circuits, logs, ahead, effect, prepared);
 }
 
 // The replies to a message that was handled with this effect, which is begun on its circuit.
@@ -514,52 +476,4 @@ fn logged_of(logs: &[Vec<LogEntry>], life: usize) -> usize
         return logs[life].len();
     }
     0
-}
-
-// The end has closed, with these bytes left. Its message's write is told, if it wrote, and all ends
-// that ended are reported.
-fn close_stepped(
-    turn: &SteppingEnd,
-    side: &mut ServerSide,
-    circuits: &mut Vec<Joined>,
-    logs: &mut Vec<Vec<LogEntry>>,
-    wrote: Option<bool>,
-    write: Option<Coming>,
-    left: Pipe,
-)
-    requires within { turn.now.circuit < vec_len circuits.old }
-    requires alike { (busies : Bool) → wrote ≡ Some busies
-        → AllAlike turn.now.server side.old.core (map joined_of circuits.old.items) }
-    requires counts { (busies : Bool) (w : coming.Coming)
-        → wrote ≡ Some busies → write ≡ Some w → AllMayCount circuits.old.items }
-    requires served { AreServed
-        side.old.circuits.items
-        (map joined_of circuits.old.items)
-        turn.now.server }
-    requires room { HasRoomFor (waits side.old.records.items + 2) side.old.life logs.old.items }
-    ensures closes { (j : model.Joined)
-        → At (map joined_of circuits.old.items) turn.now.circuit j
-        → ClosesWith
-        turn.now.circuit
-        turn.now.server
-        turn.now.at
-        (length j.lists.handled)
-        wrote
-        write
-        left
-        side.old
-        (map joined_of circuits.old.items)
-        (entries_in logs.old.items)
-        side.new
-        (map joined_of circuits.new.items)
-        (entries_in logs.new.items) }
-    ensures numbers { side.new.circuits.items ≡ side.old.circuits.items }
-{
-    let place = circuits[turn.circuit].lists.handled.len();
-    let put = PutPlace {
-        circuit: turn.circuit,
-        place,
-    };
-    tell_write(put, turn.server, side, circuits, logs, wrote, write);
-    report_ends_with(turn.alloc, turn.server, side, circuits, logs, turn.at, left);
 }

@@ -152,6 +152,11 @@ nothing-told (l ∷ ls) none = absurd (let bad : left_of l ∷ lefts_of ls ≡ [
 pub room-fewer : (m n life : ℕ) (logs : List (Vec Line Global)) → n ≤ m → HasRoom m life logs → HasRoom n life logs
 room-fewer m n life logs le room log at = (let r = room log at in omega (arith, le, r))
 
+-- room for lines, if there are any, is room for them
+pub room-some : (some : Bool) (n life : ℕ) (logs : List (Vec Line Global)) → (some ≡ true → HasRoom n life logs) → (some ≡ false → n ≡ 0) → HasRoom n life logs
+room-some true n life logs room none = room refl
+room-some false n life logs room none = λ log at. (let no = none refl in omega (arith, no, log.ok.1))
+
 -- room for what two tell is room for what the first tells, and then for what the other does
 pub room-first : (first rest : List Notice) (life : ℕ) (logs : List (Vec Line Global)) → HasRoom (length (first ++ rest)) life logs → HasRoom (length first) life logs
 room-first first rest life logs = room-fewer (length (first ++ rest)) (length first) life logs (let e = length-append first rest in omega (arith, e))

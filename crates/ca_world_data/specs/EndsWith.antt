@@ -10,7 +10,6 @@ use Rattle.ca_model.specs.ServerEvents.{ending, ends_at, ends_by, reported, serv
 use Rattle.ca_model.specs.ServerEvents.{withdrawals, without_puts}
 use Rattle.ca_model.specs.World.{Joined, grown}
 use Rattle.ca_world_data.specs.declared.server.ServerSide.{ServerSide}
-use Rattle.ca_world_data.specs.Reporting.{gone_at}
 use Rattle.ca_world_data.specs.Seen.{record_of, server_of}
 
 -- The circuit that is open at server i under this handle ends with these bytes left, and others as
@@ -20,10 +19,14 @@ ends_under h left i core c =
     if same_handle c.at_server h && (c.server == i && c.lists.server_open) then Some left
     else ends_by i core c
 
--- the circuits that end so, or without a handle as the core says: what they leave plays no part
+-- A circuit ends so, or without a handle as the core says: what it leaves plays no part.
+abbrev pub goes_with : Option Handle → (i : ℕ) → Server → Joined → Option (List ℕ)
+goes_with (Some h) i core = ends_under h [] i core
+goes_with None i core = ends_by i core
+
+-- the circuits that end so
 abbrev pub gone_with : Option Handle → (i : ℕ) → Server → List Joined → ℕ → Bool
-gone_with (Some h) i core ks = ends_at (ends_under h [] i core) ks
-gone_with None i core ks = gone_at i core ks
+gone_with closed i core ks = ends_at (goes_with closed i core) ks
 
 -- a circuit, which ends with these bytes left if it is that of the handle
 abbrev pub closed_under : Handle → List ℕ → (i : ℕ) → Joined → Joined

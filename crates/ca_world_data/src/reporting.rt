@@ -4,13 +4,13 @@ ghost use Rattle.std.specs.Prelude.{[], ◌≡◌, ◌++◌, ◌+◌, ◌<◌, �
 ghost use Rattle.std.specs.Prelude.{MatchOption, filter, is_some, length, map, not, vec_capacity};
 ghost use Rattle.std.specs.Prelude.{vec_len};
 ghost use Rattle.ca_ids.specs.Table.{same_handle, under, with_freed};
-ghost use Rattle.ca_model.specs.ServerEvents.{ends_at};
 ghost use Rattle.ca_model.specs.ServerEvents as world;
 ghost use Rattle.ca_model.specs.World.{grown};
-ghost use Rattle.ca_world_data.specs.EndsWith.{ReportsWith, closed_under, ends_under, gone_with};
+ghost use Rattle.ca_world_data.specs.EndsWith.{ReportsWith, closed_under, ends_under, goes_with};
+ghost use Rattle.ca_world_data.specs.EndsWith.{gone_with};
 ghost use Rattle.ca_world_data.specs.Opening.{entries_in};
 ghost use Rattle.ca_world_data.specs.Reporting.{AreServed, IsServed, IsUnserved, Quits, Reports};
-ghost use Rattle.ca_world_data.specs.Reporting.{ReportsAt, all_gone, gone_at, gone_of, waits};
+ghost use Rattle.ca_world_data.specs.Reporting.{ReportsAt, all_gone, gone_of, waits};
 ghost use Rattle.ca_world_data.specs.Seen.{entry_of, joined_of, record_of};
 ghost use Rattle.ca_world_data.specs.ServerCuts.{HasRoomFor};
 
@@ -170,31 +170,24 @@ fn is_gone(
 ) -> bool
     ensures { result ≡ gone_with closed server core.now (map joined_of circuits.now) circuit }
 {
-    match closed {
-        Some(handle) => goes_under(server, handle, core, circuits, circuit),
-        None => goes(server, core, circuits, circuit),
-    }
-}
-
-// Whether the end of this circuit at the server is the one under the handle, or has ended.
-fn goes_under(
-    server: usize,
-    handle: Handle,
-    core: &ServerCore,
-    circuits: &[Joined],
-    circuit: usize,
-) -> bool
-    ensures { result
-        ≡ ends_at (ends_under handle [] server core.now) (map joined_of circuits.now) circuit }
-{
     if circuit >= circuits.len() {
         return false;
     }
-    ends_now(server, handle, core, &circuits[circuit])
+    ends_now(server, closed, core, &circuits[circuit])
+}
+
+// Whether this circuit's end at this server is the one that is closed, or has ended.
+fn ends_now(server: usize, closed: Option<Handle>, core: &ServerCore, joined: &Joined) -> bool
+    ensures { result ≡ is_some (goes_with closed server core.now (joined_of joined.now)) }
+{
+    match closed {
+        Some(handle) => ends_under(server, handle, core, joined),
+        None => has_quit(server, core, joined),
+    }
 }
 
 // Whether this circuit's end at this server is the one under the handle, or has ended.
-fn ends_now(server: usize, handle: Handle, core: &ServerCore, joined: &Joined) -> bool
+fn ends_under(server: usize, handle: Handle, core: &ServerCore, joined: &Joined) -> bool
     ensures { result ≡ is_some (ends_under handle [] server core.now (joined_of joined.now)) }
 {
     is_under(server, handle, joined) || has_quit(server, core, joined)
@@ -207,16 +200,6 @@ fn is_under(server: usize, handle: Handle, joined: &Joined) -> bool
         && (joined.now.server == server && joined.now.lists.server_open)) }
 {
     is_same(joined.at_server, handle) && (joined.server == server && joined.lists.server_open)
-}
-
-// Whether the end of this circuit at the server has ended.
-fn goes(server: usize, core: &ServerCore, circuits: &[Joined], circuit: usize) -> bool
-    ensures { result ≡ gone_at server core.now (map joined_of circuits.now) circuit }
-{
-    if circuit >= circuits.len() {
-        return false;
-    }
-    has_quit(server, core, &circuits[circuit])
 }
 
 // Whether this circuit's end at this server has ended.

@@ -1,6 +1,6 @@
 //! What a client sends without being called for it: each message goes up the circuit that is open
 //! at the client under its handle.
-ghost use Rattle.std.specs.Prelude.{◌≡◌, OnOk, map};
+ghost use Rattle.std.specs.Prelude.{◌≡◌, ◌≢◌, [], OnErr, OnOk, map};
 ghost use Rattle.ca_client_core.specs.ForHistories.{aim_of, sending_of};
 ghost use Rattle.ca_model.specs.ClientEvents as world;
 ghost use Rattle.ca_world_data.specs.Found.{AreNumbered};
@@ -18,7 +18,8 @@ use ca_arena::Handle;
 use ca_client_core::for_histories::{Aim, Sending};
 use std::alloc::AllocError;
 
-/// Makes room for these messages of a client on its circuits, which it has by these numbers.
+/// Makes room for these messages of a client on its circuits, which it has by these numbers. It
+/// takes memory only if there is one.
 pub fn reserve_sendings(
     client: usize,
     numbers: &[usize],
@@ -28,6 +29,7 @@ pub fn reserve_sendings(
     requires { AreNumbered numbers.now (map joined_of circuits.old.items) client }
     ensures same { map joined_of circuits.new.items ≡ map joined_of circuits.old.items }
     ensures room { OnOk result (HasRoomForAll client sendings.now circuits.new.items) }
+    ensures some { OnErr result (sendings.now ≢ []) }
 {
     for place in 0..sendings.len() {
         if is_repeated(sendings, place) {

@@ -1,13 +1,8 @@
 //! A moment is handed to a client of the world.
-ghost use Rattle.std.specs.Prelude.{◌≡◌, ◌≢◌, ◌+◌, [], OnErr, OnOk, false, length, map, true};
-ghost use Rattle.ca_client_core.specs.Ticked.{lefts_of, notices_of};
-ghost use Rattle.ca_model.specs.History.{OfCircuit};
-ghost use Rattle.ca_model.specs.ClientEvents.{after_tick, lines_of};
-ghost use Rattle.ca_model.specs.World.{grown};
+ghost use Rattle.std.specs.Prelude.{◌≡◌, ◌+◌, OnErr, OnOk, length, map, true};
 ghost use Rattle.ca_world_data.specs.Found.{AreNumbered};
 ghost use Rattle.ca_world_data.specs.Logs.{HasRoom, lines_in};
-ghost use Rattle.ca_world_data.specs.Seen.{client_of, joined_of, names_of};
-ghost use Rattle.ca_world_data.specs.Sends.{HasRoomForAll};
+ghost use Rattle.ca_world_data.specs.Seen.{client_of, joined_of};
 ghost use Rattle.ca_world_data.specs.Ticks.{TellsFew, TicksClient};
 
 use crate::client::ClientSide;
@@ -16,8 +11,6 @@ use crate::joined::Joined;
 use crate::logs::reserve_lines;
 use crate::sending::{push_sendings, reserve_sendings};
 use crate::silencing::end_silents;
-use ca_client_core::Left;
-use ca_client_core::for_histories::Sending;
 use ca_client_core::for_moments::{Foretold, foretell};
 use std::alloc::AllocError;
 
@@ -48,34 +41,16 @@ pub fn tick_client(
     ensures kept { side.new.circuits.items ≡ side.old.circuits.items }
 {
     let Foretold { sent, ends } = foretell(&mut side.core, moment)?;
-    reserve_sent(client, &side.circuits, circuits, &sent)?;
+    reserve_sendings(client, &side.circuits, circuits, &sent)?;
     reserve_end_lines(side, logs, ends)?;
     match side.core.tick(moment) {
         Ok(ticked) => {
             push_sendings(client, &side.circuits, &side.names, circuits, sent);
-            note_ends(client, side, circuits, logs, ends, ticked.closings);
+            end_silents(client, side, circuits, logs, ticked.closings);
             Ok(())
         }
         Err(_) => Err(AllocError),
     }
-}
-
-// Makes room for these messages, if there are any.
-fn reserve_sent(
-    client: usize,
-    numbers: &[usize],
-    circuits: &mut Vec<Joined>,
-    sent: &[Sending],
-) -> Result<(), AllocError>
-    requires { AreNumbered numbers.now (map joined_of circuits.old.items) client }
-    ensures same { map joined_of circuits.new.items ≡ map joined_of circuits.old.items }
-    ensures room { OnOk result (HasRoomForAll client sent.now circuits.new.items) }
-    ensures some { OnErr result (sent.now ≢ []) }
-{
-    if sent.is_empty() {
-        return Ok(());
-    }
-    reserve_sendings(client, numbers, circuits, sent)
 }
 
 // Makes room for what ends of the client tell, if any ends.
@@ -97,34 +72,4 @@ fn reserve_end_lines(
     }
     let few = side.names.requests.len() + side.names.channels.len();
     reserve_lines(logs, side.life, few)
-}
-
-// These ends of a client have ended, if any has.
-fn note_ends(
-    client: usize,
-    side: &ClientSide,
-    circuits: &mut Vec<Joined>,
-    logs: &mut Vec<Vec<Line>>,
-    ends: bool,
-    closings: Vec<Left>,
-)
-    requires numbered { AreNumbered
-        side.now.circuits.items
-        (map joined_of circuits.old.items)
-        client }
-    requires room { ends ≡ true
-        → HasRoom (length (notices_of closings.items)) side.now.life logs.old.items }
-    requires none { ends ≡ false → lefts_of closings.items ≡ [] }
-    ensures circuits { map joined_of circuits.new.items
-        ≡ map (after_tick client (lefts_of closings.items)) (map joined_of circuits.old.items) }
-    ensures logs { lines_in logs.new.items
-        ≡ grown
-        side.now.life
-        (lines_of OfCircuit (names_of side.now.names) (notices_of closings.items))
-        (lines_in logs.old.items) }
-{
-    if !ends {
-        return;
-    }
-    end_silents(client, side, circuits, logs, closings);
 }

@@ -20,6 +20,6 @@ mod verb;
 
 pub use drawing::{DRAWS, Drawing};
 pub use drawn::{circuit_drawn, event_drawn};
-pub use logs::{write_lives, write_log};
+pub use logs::write_lives;
 pub use report::write_report;
 pub use script::{Script, read_script};

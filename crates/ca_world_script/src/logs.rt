@@ -1,6 +1,6 @@
 //! The lines of a report: one for each entry of a client's log, but for its calls that were
 //! accepted.
-ghost use Rattle.std.specs.Prelude.{◌≡◌, ◌≢◌, ◌<◌, ◌++◌, IfErr, OnErr, OnOk, Some, length, map};
+ghost use Rattle.std.specs.Prelude.{◌≡◌, ◌<◌, ◌++◌, IfErr, OnOk, Some, length, map};
 ghost use Rattle.ca_text.specs.declared.refusal.Refusal.TheVariants.{OutOfMemory};
 ghost use Rattle.ca_text.specs.Place.{At};
 ghost use Rattle.ca_world_script.specs.Logs.{entry_text, found_text, is_shown, life_text};
@@ -14,23 +14,59 @@ use ca_script::{put, put_count, put_outcome};
 use ca_text::Refusal;
 use ca_world_data::history::{Ask, Intent, Kind, Line};
 
-/// Writes the lines of the log of a client's life. Refused as OutOfMemory only if it has an entry;
-/// the text is then as before.
-pub fn write_log(client: u64, log: &[Line], out: &mut Vec<u8>) -> Result<(), Refusal>
+/// Writes the lines of a client: those of its lives, in order, by the logs of all lives.
+/// Refused as OutOfMemory.
+pub fn write_lives(
+    client: u64,
+    lives: &[usize],
+    logs: &[Vec<Line>],
+    out: &mut Vec<u8>,
+) -> Result<(), Refusal>
     ensures ok { OnOk result (out.new.items
-        ≡ out.old.items ++ log_text client (map line_of log.now)) }
-    ensures err { IfErr result (λ e. (e ≡ OutOfMemory) × (out.new.items ≡ out.old.items)) }
-    ensures some { OnErr result (length log.now ≢ 0) }
+        ≡ out.old.items ++ lives_text client (logs_of logs.now) lives.now) }
+    ensures err { IfErr result (λ e. e ≡ OutOfMemory) }
 {
-    if log.is_empty() {
+    for life in lives {
+        write_life(client, *life, logs, out)?;
+    }
+    Ok(())
+}
+
+// Writes the lines of one life.
+fn write_life(
+    client: u64,
+    life: usize,
+    logs: &[Vec<Line>],
+    out: &mut Vec<u8>,
+) -> Result<(), Refusal>
+    ensures ok { OnOk result (out.new.items
+        ≡ out.old.items ++ life_text client (logs_of logs.now) life) }
+    ensures err { IfErr result (λ e. e ≡ OutOfMemory) }
+{
+    if life >= logs.len() {
         return Ok(());
     }
-    let mut text = Vec::new(*out.allocator());
+    write_log(client, log_at(logs, life), out)
+}
+
+// Writes the lines of the log of a life.
+fn write_log(client: u64, log: &[Line], out: &mut Vec<u8>) -> Result<(), Refusal>
+    ensures ok { OnOk result (out.new.items
+        ≡ out.old.items ++ log_text client (map line_of log.now)) }
+    ensures err { IfErr result (λ e. e ≡ OutOfMemory) }
+{
     for line in log {
-        put_line(client, log, line, &mut text)?;
+        put_line(client, log, line, out)?;
     }
-    out.extend_from_slice(&text)?;
     Ok(())
+}
+
+// The log of a life.
+fn log_at(logs: &[Vec<Line>], life: usize) -> &[Line]
+    requires { life < length logs.now }
+    ensures { At (logs_of logs.now) life (map line_of result.now) }
+{
+    &logs[life]
 }
 
 // Puts the line of one entry at the end, if it has one.
@@ -185,47 +221,4 @@ fn put_line_outcome(line: &Line, text: &mut Vec<u8>) -> Result<(), Refusal>
         Line::Collected(_, _) => put(b" nothing", text),
         Line::GaveUp(_, _) => put(b" nothing", text),
     }
-}
-
-/// Writes the lines of a client: those of its lives, in order, by the logs of all lives.
-/// Refused as OutOfMemory.
-pub fn write_lives(
-    client: u64,
-    lives: &[usize],
-    logs: &[Vec<Line>],
-    out: &mut Vec<u8>,
-) -> Result<(), Refusal>
-    ensures ok { OnOk result (out.new.items
-        ≡ out.old.items ++ lives_text client (logs_of logs.now) lives.now) }
-    ensures err { IfErr result (λ e. e ≡ OutOfMemory) }
-{
-    for life in lives {
-        write_life(client, *life, logs, out)?;
-    }
-    Ok(())
-}
-
-// Writes the lines of one life.
-fn write_life(
-    client: u64,
-    life: usize,
-    logs: &[Vec<Line>],
-    out: &mut Vec<u8>,
-) -> Result<(), Refusal>
-    ensures ok { OnOk result (out.new.items
-        ≡ out.old.items ++ life_text client (logs_of logs.now) life) }
-    ensures err { IfErr result (λ e. e ≡ OutOfMemory) }
-{
-    if life >= logs.len() {
-        return Ok(());
-    }
-    write_log(client, log_at(logs, life), out)
-}
-
-// The log of a life.
-fn log_at(logs: &[Vec<Line>], life: usize) -> &[Line]
-    requires { life < length logs.now }
-    ensures { At (logs_of logs.now) life (map line_of result.now) }
-{
-    &logs[life]
 }

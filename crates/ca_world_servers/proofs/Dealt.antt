@@ -1,21 +1,17 @@
--- What a message did, by its effect; and whether it wrote, if its step closed its end, by what is
--- read of the server before and after it.
+-- What a message did, by its effect; and whether it wrote, if its step closed its end, by what was
+-- foreseen of it and the count of applied writes.
 use Rattle.std.proofs.Common.{◌≡◌, ℕ, zero, suc, ◌+◌, ◌<◌, ◌⊎◌, inl, inr, Bool, true, false, cond, not, ◌&&◌, ◌||◌, eqb, eq-eqb, eqb-true, List, [], ◌∷◌, length, Option, Some, None, refl, sym, ap, subst, ◌∙◌, arith, rules}
-use Rattle.std.specs.Prelude.{◌%◌, ◌*◌, ◌==◌, if◌then◌else◌, is_some, min, nat_lt, option_map, unwrap_or}
+use Rattle.std.specs.Prelude.{◌%◌, ◌*◌, ◌==◌, if◌then◌else◌, min, nat_lt}
 use Rattle.std.specs.List.{list_any}
-use Rattle.std.specs.Str.{bytes_eq}
 use Rattle.std.proofs.lemmas.Bool.{both_ways, le-ltb, lt-ltb}
 use Rattle.ca_arena.specs.declared.handle.Handle.{Handle}
 use Rattle.ca_dbr.specs.Conversion.{converted}
 use Rattle.ca_dbr.specs.Elements.{Elements}
 use Rattle.ca_dbr.specs.declared.data_type.DataType.{DataType}
-use Rattle.ca_ids.specs.Table.{same_handle}
 use Rattle.ca_queue.specs.Circuit.{HasNone}
 use Rattle.ca_queue.specs.declared.entry.SubKey.{SubKey}
 use Rattle.ca_queue.specs.Keys.{is_among}
-use Rattle.ca_records.specs.declared.puts.Put.{Put}
 use Rattle.ca_records.specs.Faults.{first_fault, lacks_conversion}
-use Rattle.ca_records.specs.Puts.{Record, record_named, with_record, with_value, withdrawn, without_puts, written_meta}
 use Rattle.ca_records.specs.Record.{RecordState}
 use Rattle.ca_records.specs.Rules.{may_read}
 use Rattle.ca_text.specs.Command.{command_number}
@@ -27,11 +23,11 @@ use Rattle.ca_text.specs.Status.{add_fail, bad_count, no_convert, no_read_access
 use Rattle.ca_text.proofs.Places.{some_is}
 use Rattle.ca_wire.specs.Fields.{Fields}
 use Rattle.ca_wire.specs.Messages.{mask_in}
-use Rattle.ca_model.specs.Due.{Action, Adds, Applies, Clears, Drops, Due, Greets, KnownChannel, KnownRecord, Knows, Names, Nothing, Opens, PutTaken, Serves, Switches, Waits, fault_of_event, is_known, key_in, must_wait, rights_at, subscription_in}
+use Rattle.ca_model.specs.Due.{Action, Adds, Applies, Clears, Drops, Due, Greets, KnownChannel, Knows, Names, Nothing, Opens, PutTaken, Serves, Switches, Waits, fault_of_event, is_known, key_in, must_wait, rights_at, subscription_in}
 use Rattle.ca_model.specs.Ends.{Peer}
 use Rattle.ca_model.specs.Faults.{subscribed_count, subscription_fault, too_many, type_of}
 use Rattle.ca_model.specs.Server.{Server, ServerEnd, Subscription, key_of}
-use Rattle.ca_model.specs.ServerSteps.{Handles, HasEnd, LeftOf, Next, Reaches, Records, closed, known_record, knows}
+use Rattle.ca_model.specs.ServerSteps.{Handles, HasEnd, LeftOf, Next, Reaches, Records, closed, knows}
 use Rattle.ca_model.specs.World.{Joined}
 use Rattle.ca_server_circuit.specs.Effects.{effect_due}
 use Rattle.ca_server_circuit.specs.Peeking.{is_write}
@@ -39,8 +35,8 @@ use Rattle.ca_server_circuit.specs.declared.effect.Effect.{Effect}
 use Rattle.ca_server_circuit.specs.declared.effect.Effect.TheVariants as effect
 use Rattle.ca_world_data.specs.Numbering.{AreAlike, keys_on}
 use Rattle.ca_world_servers.specs.declared.coming.Coming.{Coming}
-use Rattle.ca_world_servers.specs.Coming.{Foresees}
-use Rattle.ca_world_servers.specs.Effects.{BeginsNew, IsWrite, is_busy_in, wrote_by, wrote_in}
+use Rattle.ca_world_servers.specs.Coming.{Foresees, IsComing, busies_by}
+use Rattle.ca_world_servers.specs.Effects.{BeginsNew, IsWrite, busies_in, wrote_by, wrote_in}
 use Rattle.ca_world_servers.specs.Losing.{AreSeated}
 
 -- ---- what is due, by what it does
@@ -152,123 +148,40 @@ abbrev pub busies_of : Action → Option Bool
 busies_of (Applies name value busies) = Some busies
 busies_of did = None
 
--- ---- records of a name
+-- ---- how many writes were applied
 
--- the record of this name is busy
-abbrev pub busy_named : List Record → List ℕ → Bool
-busy_named rs name = unwrap_or (option_map (λ (r : Record). is_some r.busy) (record_named rs name)) false
-
--- a record, if it has the name, or the one among the others
-abbrev named_or : Bool → Record → Option Record → Option Record
-named_or b r o = cond b (Some r) o
-
-named-with : (name : List ℕ) (f : Record → Record) → ((r : Record) → (f r).state.name ≡ r.state.name) → (rs : List Record) → record_named (with_record name f rs) name ≡ option_map f (record_named rs name)
-named-with name f same [] = refl
-named-with name f same (r ∷ rs) = go (bytes_eq r.state.name name) refl (named-with name f same rs)
-  where
-    go : (b : Bool) → bytes_eq r.state.name name ≡ b → record_named (with_record name f rs) name ≡ option_map f (record_named rs name)
-        → named_or (bytes_eq (cond (bytes_eq r.state.name name) (f r) r).state.name name) (cond (bytes_eq r.state.name name) (f r) r) (record_named (with_record name f rs) name) ≡ option_map f (named_or (bytes_eq r.state.name name) r (record_named rs name))
-    go true e rest =
-        subst (λ (b : Bool). named_or (bytes_eq (cond b (f r) r).state.name name) (cond b (f r) r) (record_named (with_record name f rs) name) ≡ option_map f (named_or b r (record_named rs name))) (sym e)
-        (ap (λ (b : Bool). named_or b (f r) (record_named (with_record name f rs) name)) (ap (λ (n : List ℕ). bytes_eq n name) (same r) ∙ e))
-    go false e rest =
-        subst (λ (b : Bool). named_or (bytes_eq (cond b (f r) r).state.name name) (cond b (f r) r) (record_named (with_record name f rs) name) ≡ option_map f (named_or b r (record_named rs name))) (sym e)
-        (ap (λ (b : Bool). named_or b r (record_named (with_record name f rs) name)) e ∙ rest)
-
-named-without : (which : Put → Bool) (name : List ℕ) (rs : List Record) → record_named (withdrawn which rs) name ≡ option_map (without_puts which) (record_named rs name)
-named-without which name [] = refl
-named-without which name (r ∷ rs) = go (bytes_eq r.state.name name) (named-without which name rs)
-  where
-    go : (b : Bool) → record_named (withdrawn which rs) name ≡ option_map (without_puts which) (record_named rs name)
-        → named_or b (without_puts which r) (record_named (withdrawn which rs) name) ≡ option_map (without_puts which) (named_or b r (record_named rs name))
-    go true rest = refl
-    go false rest = rest
-
-busy-without : (which : Put → Bool) (name : List ℕ) (rs : List Record) → busy_named (withdrawn which rs) name ≡ busy_named rs name
-busy-without which name rs = ap (λ (o : Option Record). unwrap_or (option_map (λ (r : Record). is_some r.busy) o) false) (named-without which name rs) ∙ go (record_named rs name)
-  where
-    go : (o : Option Record) → unwrap_or (option_map (λ (r : Record). is_some r.busy) (option_map (without_puts which) o)) false ≡ unwrap_or (option_map (λ (r : Record). is_some r.busy) o) false
-    go None = refl
-    go (Some r) = refl
-
--- the record that a server knows under a name
-known-one : (cs : List Record) (name : List ℕ) (known : KnownRecord) → option_map known_record (record_named cs name) ≡ Some known → (c : Record) × (record_named cs name ≡ Some c) × (known_record c ≡ known)
-known-one cs name known is = go (record_named cs name) refl is
-  where
-    go : (o : Option Record) → record_named cs name ≡ o → option_map known_record o ≡ Some known → (c : Record) × (record_named cs name ≡ Some c) × (known_record c ≡ known)
-    go None e h = absurd cc
-    go (Some c) e h = (c, e, some_is (known_record c) known h)
-
--- a record that is there has this busy put after a change
-busy-with : (name : List ℕ) (f : Record → Record) (rs : List Record) (c : Record) → ((r : Record) → (f r).state.name ≡ r.state.name) → record_named rs name ≡ Some c → busy_named (with_record name f rs) name ≡ is_some (f c).busy
-busy-with name f rs c same is =
-    ap (λ (o : Option Record). unwrap_or (option_map (λ (r : Record). is_some r.busy) o) false) (named-with name f same rs ∙ ap (λ (o : Option Record). option_map f o) is)
-
--- ---- what happens after the records were changed
-
--- As many writes were applied, and the same records are busy.
-pub record Thins (mid new : Server) : Type 0 where
-  pub applied : new.applied ≡ mid.applied
-  pub busy : (name : List ℕ) → busy_named new.records name ≡ busy_named mid.records name
-
-thins-same : (mid new : Server) → new ≡ mid → Thins mid new
-thins-same mid new is = subst (λ (y : Server). Thins mid y) (sym is) (record { applied = refl; busy = λ name. refl })
-
-thins-then : (a b c : Server) → Thins a b → Thins b c → Thins a c
-thins-then a b c f g = record { applied = g.applied ∙ f.applied; busy = λ name. g.busy name ∙ f.busy name }
-
-thins-without : (which : Put → Bool) (mid new : Server) → new.applied ≡ mid.applied → new.records ≡ withdrawn which mid.records → Thins mid new
-thins-without which mid new same is = record {
-  applied = same;
-  busy = λ name. ap (λ (rs : List Record). busy_named rs name) is ∙ busy-without which name mid.records;
-}
-
-thins-reached : (did : Action) (gone : Handle → Bool) (mid new : Server) → Reaches did gone mid new → Thins mid new
-thins-reached (Applies name value busies) gone mid new reaches =
-    thins-without (λ (p : Put). gone p.circuit) mid new (ap (λ (y : Server). y.applied) reaches.1) (ap (λ (y : Server). y.records) reaches.1)
-thins-reached Nothing gone mid new reaches = thins-same mid new reaches.1
-thins-reached Greets gone mid new reaches = thins-same mid new reaches.1
-thins-reached (Names p) gone mid new reaches = thins-same mid new reaches.1
-thins-reached (Opens c) gone mid new reaches = thins-same mid new reaches.1
-thins-reached (Clears sid) gone mid new reaches = thins-same mid new reaches.1
-thins-reached (Waits name value) gone mid new reaches = thins-same mid new reaches.1
-thins-reached (Adds s) gone mid new reaches = thins-same mid new reaches.1
-thins-reached (Drops key) gone mid new reaches = thins-same mid new reaches.1
-thins-reached (Switches on) gone mid new reaches = thins-same mid new reaches.1
-
-module _ (y : Server) (h : Handle) (e : ServerEnd) (m : Fields) (replies : List Fields) (did : Action) (after : Server) (handles : Handles y h e m replies did after) (gone : Handle → Bool) (core : Server) (reaches : Reaches did gone after core) where
-  -- from what the message made of the records
-  thins-handled : Thins handles.recorded core
-  thins-handled =
-      thins-then handles.recorded after core
-      (record { applied = ap (λ (x : Server). x.applied) handles.leaves; busy = λ name. ap (λ (x : Server). busy_named x.records name) handles.leaves })
-      (thins-reached did gone after core reaches)
-
-thins-closed : (h : Handle) (mid new : Server) → new ≡ closed h mid → Thins mid new
-thins-closed h mid new is =
-    thins-without (λ (p : Put). same_handle p.circuit h) mid new (ap (λ (x : Server). x.applied) is) (ap (λ (x : Server). x.records) is)
-
--- ---- whether it wrote
+applied-reached : (did : Action) (gone : Handle → Bool) (mid new : Server) → Reaches did gone mid new → new.applied ≡ mid.applied
+applied-reached (Applies name value busies) gone mid new reaches = ap (λ (x : Server). x.applied) reaches.1
+applied-reached Nothing gone mid new reaches = ap (λ (x : Server). x.applied) reaches.1
+applied-reached Greets gone mid new reaches = ap (λ (x : Server). x.applied) reaches.1
+applied-reached (Names p) gone mid new reaches = ap (λ (x : Server). x.applied) reaches.1
+applied-reached (Opens c) gone mid new reaches = ap (λ (x : Server). x.applied) reaches.1
+applied-reached (Clears sid) gone mid new reaches = ap (λ (x : Server). x.applied) reaches.1
+applied-reached (Waits name value) gone mid new reaches = ap (λ (x : Server). x.applied) reaches.1
+applied-reached (Adds s) gone mid new reaches = ap (λ (x : Server). x.applied) reaches.1
+applied-reached (Drops key) gone mid new reaches = ap (λ (x : Server). x.applied) reaches.1
+applied-reached (Switches on) gone mid new reaches = ap (λ (x : Server). x.applied) reaches.1
 
 raised : (n limit : ℕ) → n < limit → n < min (n + 1) limit
 raised n limit l = search rules
 
-abbrev told_if : Bool → Bool → Option Bool
-told_if counted busy = cond counted (Some busy) None
+abbrev told_if : Bool → Option Bool → Option Bool
+told_if counted busies = cond counted busies None
 
-module _ (y : Server) (h : Handle) (e : ServerEnd) (m : Fields) (recorded core : Server) (busy : Bool) (thins : Thins recorded core) (below : y.applied < applied_limit) where
-  none-written : y.applied ≡ recorded.applied → told_if (nat_lt y.applied core.applied) busy ≡ None
-  none-written same = ap (λ (b : Bool). told_if b busy) (le-ltb y.applied core.applied (omega (arith, same, thins.applied)))
+-- what the count tells of a write that makes its record busy, or not
+module _ (y : Server) (h : Handle) (e : ServerEnd) (m : Fields) (recorded core : Server) (busies : Option Bool) (same : core.applied ≡ recorded.applied) (below : y.applied < applied_limit) where
+  none-written : y.applied ≡ recorded.applied → told_if (nat_lt y.applied core.applied) busies ≡ None
+  none-written is = ap (λ (b : Bool). told_if b busies) (le-ltb y.applied core.applied (omega (arith, is, same)))
 
-  one-written : recorded.applied ≡ min (y.applied + 1) applied_limit → told_if (nat_lt y.applied core.applied) busy ≡ Some busy
-  one-written same =
+  one-written : recorded.applied ≡ min (y.applied + 1) applied_limit → told_if (nat_lt y.applied core.applied) busies ≡ busies
+  one-written is =
       let more : y.applied < min (y.applied + 1) applied_limit = raised y.applied applied_limit below in
-      let less : y.applied < core.applied = subst (λ (n : ℕ). y.applied < n) (sym (thins.applied ∙ same)) more in
-      ap (λ (b : Bool). told_if b busy) (lt-ltb y.applied core.applied less)
+      let less : y.applied < core.applied = subst (λ (n : ℕ). y.applied < n) (sym (same ∙ is)) more in
+      ap (λ (b : Bool). told_if b busies) (lt-ltb y.applied core.applied less)
 
-  written : (did : Action) → Records y h e m did recorded → ((name : List ℕ) (value : Elements) (busies : Bool) → did ≡ Applies name value busies → busy ≡ busies) → told_if (nat_lt y.applied core.applied) busy ≡ busies_of did
-  written (Applies name value false) makes is = one-written (ap (λ (x : Server). x.applied) makes) ∙ ap Some (is name value false refl)
-  written (Applies name value true) makes is = one-written (ap (λ (x : Server). x.applied) makes.2) ∙ ap Some (is name value true refl)
+  written : (did : Action) → Records y h e m did recorded → ((name : List ℕ) (value : Elements) (b : Bool) → did ≡ Applies name value b → busies ≡ Some b) → told_if (nat_lt y.applied core.applied) busies ≡ busies_of did
+  written (Applies name value false) makes is = one-written (ap (λ (x : Server). x.applied) makes) ∙ is name value false refl
+  written (Applies name value true) makes is = one-written (ap (λ (x : Server). x.applied) makes.2) ∙ is name value true refl
   written (Waits name value) makes is = none-written (ap (λ (x : Server). x.applied) (sym makes.2))
   written (Clears sid) makes is = none-written (ap (λ (x : Server). x.applied) (sym makes))
   written Nothing makes is = none-written (ap (λ (x : Server). x.applied) (sym makes))
@@ -279,56 +192,39 @@ module _ (y : Server) (h : Handle) (e : ServerEnd) (m : Fields) (recorded core :
   written (Drops key) makes is = none-written (ap (λ (x : Server). x.applied) (sym makes))
   written (Switches on) makes is = none-written (ap (λ (x : Server). x.applied) (sym makes))
 
-and-true : (a b : Bool) → a ≡ true → a && b ≡ false → b ≡ false
-and-true true b e h = h
-and-true false b e h = absurd cc
+-- ---- whether it makes its record busy
 
 and-is : (a b : Bool) → a ≡ true → a && b ≡ b
 and-is true b e = refl
 and-is false b e = absurd cc
 
-module _ (y : Server) (h : Handle) (e left : ServerEnd) (m : Fields) (replies : List Fields) (recorded core : Server) (thins : Thins recorded core) (busy : Bool) (foreseen : (c : Serves (knows y e) m.p1) (v : Elements) → PutTaken (knows y e) m c v → busy ≡ busy_named core.records c.channel.name) where
-  -- the record that a put wrote was idle, and is busy if the put makes it so
-  busied : (name : List ℕ) (value : Elements) (busies : Bool) (c : Record) → Records y h left m (Applies name value busies) recorded → record_named y.records name ≡ Some c → is_some c.busy ≡ false → busy_named recorded.records name ≡ busies
-  busied name value false c makes is idle =
-      ap (λ (x : Server). busy_named x.records name) makes ∙ busy-with name (with_value value (written_meta y.stamp)) y.records c (λ r. refl) is ∙ idle
-  busied name value true c makes is idle =
-      ap (λ (x : Server). busy_named x.records name) makes.2
-      ∙ busy-with name (λ (r : Record). record (with_value value (written_meta y.stamp) r) { busy = Some makes.0 }) y.records c (λ r. refl) is
+-- what was foreseen of a write
+comes-busies : (k : Knows) (m : Fields) (c : Serves k m.p1) (v : Elements) (write : Option Coming) → IsComing k m c v write → busies_in write ≡ Some (busies_by m c.known.state)
+comes-busies k m c v (Some w) comes = ap Some comes.2
+comes-busies k m c v None comes = absurd comes
 
-  busy-applied : (name : List ℕ) (value : Elements) (busies : Bool) → Due (knows y e) m replies (Applies name value busies) → Records y h left m (Applies name value busies) recorded → (m.command == command_number command.WriteNotify) && busy ≡ busies
-  busy-applied name value busies due makes = due-cases (knows y e) m replies (Applies name value busies) ((m.command == command_number command.WriteNotify) && busy ≡ busies) due (record {
-    nothing = λ is. absurd cc;
-    greets = λ is. absurd cc;
-    names = λ p is. absurd cc;
-    opens = λ n c is. absurd cc;
-    clears = λ n is. absurd cc;
-    adds = λ n c none is. absurd cc;
-    drops = λ n is. absurd cc;
-    off = λ n is. absurd cc;
-    on = λ n is. absurd cc;
-    writes = λ n c v taken is. (let plain : busies ≡ false = cc in ap (λ (k : ℕ). (k == command_number command.WriteNotify) && busy) n ∙ sym plain);
-    puts = λ n c v taken is. put (must_wait (knows y e) m c) n c v taken refl is;
-  })
-    where
-      put : (b : Bool) → m.command ≡ command_number command.WriteNotify → (c : Serves (knows y e) m.p1) (v : Elements) → PutTaken (knows y e) m c v → must_wait (knows y e) m c ≡ b → Applies name value busies ≡ cond b (Waits c.channel.name v) (Applies c.channel.name v c.known.state.slow) → (m.command == command_number command.WriteNotify) && busy ≡ busies
-      put true n c v taken waits is = absurd cc
-      put false n c v taken waits is =
-          let one : name ≡ c.channel.name = cc in
-          let there = known-one y.records c.channel.name c.known c.named in
-          let test : (m.command == command_number command.WriteNotify) ≡ true = eq-eqb m.command (command_number command.WriteNotify) n in
-          let idle : is_some (there.0).busy ≡ false = ap (λ (k : KnownRecord). k.busy) there.2 ∙ and-true (m.command == command_number command.WriteNotify) c.known.busy test waits in
-          let found : record_named y.records name ≡ Some there.0 = ap (λ (x : List ℕ). record_named y.records x) one ∙ there.1 in
-          and-is (m.command == command_number command.WriteNotify) busy test
-          ∙ foreseen c v taken
-          ∙ ap (λ (x : List ℕ). busy_named core.records x) (sym one)
-          ∙ thins.busy name
-          ∙ busied name value busies there.0 makes found idle
-
--- what was foreseen is busy as its record is
-foreseen-busy : (y : Server) (h : Handle) (e : ServerEnd) (m : Fields) (write : Option Coming) (core : Server) → HasEnd y h e → Foresees y h m write → (c : Serves (knows y e) m.p1) (v : Elements) → PutTaken (knows y e) m c v → is_busy_in core write ≡ busy_named core.records c.channel.name
-foreseen-busy y h e m None core has sees c v taken = absurd (sees e has c v taken)
-foreseen-busy y h e m (Some w) core has sees c v taken = ap (λ (x : List ℕ). busy_named core.records x) (sym (sees e has c v taken).0)
+-- is what is done
+busies-as : (k : Knows) (m : Fields) (write : Option Coming) → ((c : Serves k m.p1) (v : Elements) → PutTaken k m c v → IsComing k m c v write) → (replies : List Fields) (name : List ℕ) (value : Elements) (busies : Bool) → Due k m replies (Applies name value busies) → busies_in write ≡ Some busies
+busies-as k m write sees replies name value busies due = due-cases k m replies (Applies name value busies) (busies_in write ≡ Some busies) due (record {
+  nothing = λ is. absurd cc;
+  greets = λ is. absurd cc;
+  names = λ p is. absurd cc;
+  opens = λ n c is. absurd cc;
+  clears = λ n is. absurd cc;
+  adds = λ n c none is. absurd cc;
+  drops = λ n is. absurd cc;
+  off = λ n is. absurd cc;
+  on = λ n is. absurd cc;
+  writes = λ n c v taken is. (let plain : busies ≡ false = cc in comes-busies k m c v write (sees c v taken) ∙ ap (λ (i : ℕ). Some ((i == command_number command.WriteNotify) && c.known.state.slow)) n ∙ ap Some (sym plain));
+  puts = λ n c v taken is. put (must_wait k m c) n c v taken is;
+})
+  where
+    put : (b : Bool) → m.command ≡ command_number command.WriteNotify → (c : Serves k m.p1) (v : Elements) → PutTaken k m c v → Applies name value busies ≡ cond b (Waits c.channel.name v) (Applies c.channel.name v c.known.state.slow) → busies_in write ≡ Some busies
+    put true n c v taken is = absurd cc
+    put false n c v taken is =
+        let slow : busies ≡ c.known.state.slow = cc in
+        let test : (m.command == command_number command.WriteNotify) ≡ true = eq-eqb m.command (command_number command.WriteNotify) n in
+        comes-busies k m c v write (sees c v taken) ∙ ap Some (and-is (m.command == command_number command.WriteNotify) c.known.state.slow test ∙ sym slow)
 
 -- a write is applied only by a message that writes
 writes-only : (k : Knows) (m : Fields) (replies : List Fields) (name : List ℕ) (value : Elements) (busies : Bool) → Due k m replies (Applies name value busies) → IsWrite m
@@ -346,38 +242,35 @@ writes-only k m replies name value busies due = due-cases k m replies (Applies n
   puts = λ n c v taken is. inr n;
 })
 
--- What was written at the step of a message, from the count and the busy records after it.
-module _ (y : Server) (h : Handle) (e : ServerEnd) (has : HasEnd y h e) (below : y.applied < applied_limit) (m : Fields) (write : Option Coming) (foreseen : IsWrite m → Foresees y h m write) where
-  wrote-thinned : (left : ServerEnd) (replies : List Fields) (did : Action) (recorded core : Server) → Due (knows y e) m replies did → Records y h left m did recorded → Thins recorded core → wrote_in core y.applied m.command write ≡ busies_of did
-  wrote-thinned left replies did recorded core due makes thins =
-      written y h left m recorded core ((m.command == command_number command.WriteNotify) && is_busy_in core write) thins below did makes here
-    where
-      here : (name : List ℕ) (value : Elements) (busies : Bool) → did ≡ Applies name value busies → (m.command == command_number command.WriteNotify) && is_busy_in core write ≡ busies
-      here name value busies is =
-          let applies : Due (knows y e) m replies (Applies name value busies) = subst (λ (a : Action). Due (knows y e) m replies a) is due in
-          let made : Records y h left m (Applies name value busies) recorded = subst (λ (a : Action). Records y h left m a recorded) is makes in
-          let sees : Foresees y h m write = foreseen (writes-only (knows y e) m replies name value busies applies) in
-          busy-applied y h e left m replies recorded core thins (is_busy_in core write) (λ c v taken. foreseen-busy y h e m write core has sees c v taken) name value busies applies made
+-- ---- whether it wrote, if its step closed its end
 
-  -- a step that applied its write alone, and closed the end
-  wrote-closed : (left : ServerEnd) (replies : List Fields) (did : Action) (after : Server) (gone : Handle → Bool) (mid core : Server) → Due (knows y e) m replies did → Handles y h left m replies did after → Reaches did gone after mid → core ≡ closed h mid → wrote_in core y.applied m.command write ≡ busies_of did
-  wrote-closed left replies did after gone mid core due handles reaches leaves =
-      wrote-thinned left replies did handles.recorded core due handles.records
-      (thins-then handles.recorded mid core (thins-handled y h left m replies did after handles gone mid reaches) (thins-closed h mid core leaves))
+-- it applied its write alone
+wrote-closed : (y : Server) (h : Handle) (e : ServerEnd) → HasEnd y h e → y.applied < applied_limit → (m : Fields) (write : Option Coming) → (IsWrite m → Foresees y h m write) → (left : ServerEnd) (replies : List Fields) (did : Action) (after : Server) (gone : Handle → Bool) (mid core : Server) → Due (knows y e) m replies did → Handles y h left m replies did after → Reaches did gone after mid → core ≡ closed h mid
+    → wrote_in core y.applied write ≡ busies_of did
+wrote-closed y h e has below m write foreseen left replies did after gone mid core due handles reaches leaves =
+    written y h left m handles.recorded core (busies_in write) same below did handles.records busies-here
+  where
+    same : core.applied ≡ handles.recorded.applied
+    same = ap (λ (x : Server). x.applied) leaves ∙ applied-reached did gone after mid reaches ∙ ap (λ (x : Server). x.applied) handles.leaves
 
--- or was not written, as its end closed
-lacks-none : (y : Server) (h : Handle) (mid core : Server) (number : ℕ) (write : Option Coming) → mid ≡ y → core ≡ closed h mid → wrote_in core y.applied number write ≡ None
-lacks-none y h mid core number write is leaves =
+    busies-here : (name : List ℕ) (value : Elements) (busies : Bool) → did ≡ Applies name value busies → busies_in write ≡ Some busies
+    busies-here name value busies is =
+        let applies : Due (knows y e) m replies (Applies name value busies) = subst (λ (a : Action). Due (knows y e) m replies a) is due in
+        busies-as (knows y e) m write (foreseen (writes-only (knows y e) m replies name value busies applies) e has) replies name value busies applies
+
+-- or its write was not applied
+lacks-none : (y : Server) (h : Handle) (mid core : Server) (write : Option Coming) → mid ≡ y → core ≡ closed h mid → wrote_in core y.applied write ≡ None
+lacks-none y h mid core write is leaves =
     let same : core.applied ≡ y.applied = ap (λ (x : Server). x.applied) leaves ∙ ap (λ (x : Server). x.applied) is in
-    ap (λ (b : Bool). told_if b ((number == command_number command.WriteNotify) && is_busy_in core write)) (le-ltb y.applied core.applied (omega (arith, same)))
+    ap (λ (b : Bool). told_if b (busies_in write)) (le-ltb y.applied core.applied (omega (arith, same)))
 
 -- what an end that closed out of memory left of its message's write
 abbrev pub left_written : Option (Handle → Bool) → Action → Option Bool
 left_written None did = None
 left_written (Some gone) did = busies_of did
 
-pub wrote-lacks : (y : Server) (h : Handle) (e : ServerEnd) → HasEnd y h e → y.applied < applied_limit → (next : Next y h e) (written : Option (Handle → Bool)) (mid core : Server) → LeftOf next written mid → core ≡ closed h mid → (write : Option Coming) → (IsWrite next.m → Foresees y h next.m write) → wrote_in core y.applied next.m.command write ≡ left_written written next.action
-wrote-lacks y h e has below next None mid core left leaves write foreseen = lacks-none y h mid core next.m.command write left leaves
+pub wrote-lacks : (y : Server) (h : Handle) (e : ServerEnd) → HasEnd y h e → y.applied < applied_limit → (next : Next y h e) (written : Option (Handle → Bool)) (mid core : Server) → LeftOf next written mid → core ≡ closed h mid → (write : Option Coming) → (IsWrite next.m → Foresees y h next.m write) → wrote_in core y.applied write ≡ left_written written next.action
+wrote-lacks y h e has below next None mid core left leaves write foreseen = lacks-none y h mid core write left leaves
 wrote-lacks y h e has below next (Some gone) mid core left leaves write foreseen =
     wrote-closed y h e has below next.m write foreseen _ next.replies next.action next.after gone mid core next.handles.due next.handles left.1 leaves
 

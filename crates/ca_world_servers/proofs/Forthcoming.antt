@@ -14,6 +14,7 @@ use Rattle.ca_dbr.specs.Types.{base_number, type_number}
 use Rattle.ca_dbr.proofs.OneReading.{base_number-small, reads-one, type_number-one}
 use Rattle.ca_ids.specs.Table.{under}
 use Rattle.ca_records.specs.Puts.{Record, record_named}
+use Rattle.ca_records.specs.Record.{RecordState}
 use Rattle.ca_text.proofs.Places.{some_is}
 use Rattle.ca_text.specs.declared.refusal.Refusal.{Refusal}
 use Rattle.ca_text.specs.declared.refusal.Refusal.TheVariants as refusal
@@ -22,10 +23,9 @@ use Rattle.ca_model.specs.Due.{KnownRecord, Knows, PutTaken, Serves}
 use Rattle.ca_model.specs.Faults.{base_type_of, base_types}
 use Rattle.ca_model.specs.Server.{Server, ServerEnd}
 use Rattle.ca_model.specs.ServerSteps.{HasEnd, known_record, knows}
-use Rattle.ca_server_core.specs.Asking.{NamesUnder}
-use Rattle.ca_server_core.specs.ForHistories.{value_in}
+use Rattle.ca_server_core.specs.Asking.{NamesUnder, state_in}
 use Rattle.ca_world_servers.specs.declared.coming.Coming.{Coming}
-use Rattle.ca_world_servers.specs.Coming.{Foresees, GivesElements, GivesValue}
+use Rattle.ca_world_servers.specs.Coming.{Foresees, GivesElements, GivesValue, busies_by}
 use Rattle.ca_world_servers.proofs.Served.{served-name, unserved}
 
 abbrev plain : BaseType → DataType
@@ -122,9 +122,9 @@ taken-gives : (m : Fields) (base : BaseType) (found : Option Elements) → Gives
 taken-gives m base found gives k c v taken is =
     gives taken.reads.base taken.elements v (typed-number m.data_type taken.reads.base taken.reads.typed) taken.reads.reads (subst (λ (b : BaseType). converted taken.elements b ≡ Ok v) is taken.is)
 
-value-known : (o : Option Record) (k : KnownRecord) → option_map known_record o ≡ Some k → value_in o ≡ Some k.state.value
-value-known None k is = absurd cc
-value-known (Some r) k is = ap (λ (z : KnownRecord). Some z.state.value) (some_is (known_record r) k is)
+state-known : (o : Option Record) (k : KnownRecord) → option_map known_record o ≡ Some k → state_in o ≡ Some k.state
+state-known None k is = absurd cc
+state-known (Some r) k is = ap (λ (z : KnownRecord). Some z.state) (some_is (known_record r) k is)
 
 module _ (core : Server) (h : Handle) (m : Fields) where
   -- no channel is served
@@ -134,22 +134,28 @@ module _ (core : Server) (h : Handle) (m : Fields) where
 
   -- it is to the record of this name
   module _ (name : List ℕ) (named : NamesUnder (under core.circuits h) m.p1 (Some name)) where
-    served-value : (e : ServerEnd) → HasEnd core h e → (c : Serves (knows core e) m.p1) → value_in (record_named core.records name) ≡ Some c.known.state.value
-    served-value e has c =
-        value-known (record_named core.records name) c.known (ap (λ (n : List ℕ). option_map known_record (record_named core.records n)) (sym (served-name core h m name named e has c)) ∙ c.named)
+    served-state : (e : ServerEnd) → HasEnd core h e → (c : Serves (knows core e) m.p1) → state_in (record_named core.records name) ≡ Some c.known.state
+    served-state e has c =
+        state-known (record_named core.records name) c.known (ap (λ (n : List ℕ). option_map known_record (record_named core.records n)) (sym (served-name core h m name named e has c)) ∙ c.named)
 
     -- the record is not there
-    pub none-valued : (let none : Option Elements = None in none ≡ value_in (record_named core.records name)) → Foresees core h m None
-    none-valued none e has c v taken = (let there = served-value e has c in absurd cc)
+    pub none-known : (let none : Option RecordState = None in none ≡ state_in (record_named core.records name)) → Foresees core h m None
+    none-known none e has c v taken = (let there = served-state e has c in absurd cc)
 
-    -- it has this value
-    module _ (value : Elements) (valued : Some value ≡ value_in (record_named core.records name)) where
-      based : (e : ServerEnd) → HasEnd core h e → (c : Serves (knows core e) m.p1) → base_of c.known.state.value ≡ base_of value
-      based e has c = ap base_of (sym (some_is value c.known.state.value (valued ∙ served-value e has c)))
+    -- it is this
+    module _ (s : RecordState) (known : Some s ≡ state_in (record_named core.records name)) where
+      same-state : (e : ServerEnd) → HasEnd core h e → (c : Serves (knows core e) m.p1) → s ≡ c.known.state
+      same-state e has c = some_is s c.known.state (known ∙ served-state e has c)
 
-      pub none-given : GivesValue m (base_of value) None → Foresees core h m None
-      none-given gives e has c v taken = (let wrong = taken-gives m (base_of value) None gives (knows core e) c v taken (based e has c) in absurd cc)
+      based : (e : ServerEnd) → HasEnd core h e → (c : Serves (knows core e) m.p1) → base_of c.known.state.value ≡ base_of s.value
+      based e has c = ap (λ (z : RecordState). base_of z.value) (sym (same-state e has c))
 
-      pub write-given : (w : Coming) → w.name.items ≡ name → GivesValue m (base_of value) (Some (elements w.value)) → Foresees core h m (Some w)
-      write-given w is gives e has c v taken =
-          (served-name core h m name named e has c ∙ sym is, sym (some_is (elements w.value) v (taken-gives m (base_of value) (Some (elements w.value)) gives (knows core e) c v taken (based e has c))))
+      pub none-given : GivesValue m (base_of s.value) None → Foresees core h m None
+      none-given gives e has c v taken = (let wrong = taken-gives m (base_of s.value) None gives (knows core e) c v taken (based e has c) in absurd cc)
+
+      pub write-given : (w : Coming) → w.name.items ≡ name → w.busies ≡ busies_by m s → GivesValue m (base_of s.value) (Some (elements w.value)) → Foresees core h m (Some w)
+      write-given w is busy gives e has c v taken = (
+        served-name core h m name named e has c ∙ sym is,
+        sym (some_is (elements w.value) v (taken-gives m (base_of s.value) (Some (elements w.value)) gives (knows core e) c v taken (based e has c))),
+        busy ∙ ap (λ (z : RecordState). busies_by m z) (same-state e has c),
+      )

@@ -1,14 +1,12 @@
 -- Working: what a message did beside its replies, by the effect that its step reports, and what of
 -- it is known before that step.
-use Rattle.std.specs.Prelude.{ℕ, ◌≡◌, ◌⊎◌, ◌==◌, ◌&&◌, Bool, true, false, List, [], ◌∷◌, Option}
-use Rattle.std.specs.Prelude.{Some, None, if◌then◌else◌, is_some, map, nat_lt, option_map}
-use Rattle.std.specs.Prelude.{unwrap_or}
+use Rattle.std.specs.Prelude.{ℕ, ◌≡◌, ◌⊎◌, Bool, true, false, List, [], ◌∷◌, Option, Some, None}
+use Rattle.std.specs.Prelude.{if◌then◌else◌, map, nat_lt, option_map}
 use Rattle.ca_arena.specs.declared.handle.Handle.{Handle}
 use Rattle.ca_dbr.specs.Elements.{elements}
 use Rattle.ca_queue.specs.Circuit.{HasNone}
 use Rattle.ca_queue.specs.Keys.{same}
 use Rattle.ca_queue.specs.Queue.{Queue}
-use Rattle.ca_records.specs.Puts.{Record, record_named}
 use Rattle.ca_records.specs.Record.{unset}
 use Rattle.ca_text.specs.Command.{command_number}
 use Rattle.ca_text.specs.declared.command.Command.TheVariants as command
@@ -111,19 +109,14 @@ AreApart rs = (i j : ℕ) (a b : RecordSide) → At rs i a → At rs j b → a.n
 
 -- ---- a step that closed its end
 
--- the record that a write names is busy
-abbrev pub is_busy_in : Server → Option Coming → Bool
-is_busy_in core (Some w) =
-    unwrap_or
-    (option_map (λ (r : Record). is_some r.busy) (record_named core.records w.name.items)) false
-is_busy_in core None = false
+-- whether a write makes its record busy, if there is one
+abbrev pub busies_in : Option Coming → Option Bool
+busies_in write = option_map (λ (w : Coming). w.busies) write
 
--- A core that had applied n writes before a message of this command wrote by it, and made the
--- record busy or not; or it did not write.
-abbrev pub wrote_in : Server → (applied command : ℕ) → Option Coming → Option Bool
-wrote_in core applied number write =
-    if nat_lt applied core.applied then Some
-    (number == command_number command.WriteNotify && is_busy_in core write) else None
+-- A core that had applied n writes before a message made this write by it, and made the record
+-- busy or not; or it did not write.
+abbrev pub wrote_in : Server → (applied : ℕ) → Option Coming → Option Bool
+wrote_in core applied write = if nat_lt applied core.applied then busies_in write else None
 
 -- ---- how it is told
 

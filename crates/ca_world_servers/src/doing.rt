@@ -109,7 +109,7 @@ pub fn tell_write(
     let Some(write) = write else {
         return;
     };
-    let Coming { name, value } = write;
+    let Coming { name, value, .. } = write;
     let number = number_of(&name, &side.records);
     let stored = Stored {
         value,
@@ -160,7 +160,7 @@ fn tell_wait(
     let Some(write) = write else {
         return;
     };
-    let Coming { name, value } = write;
+    let Coming { name, value, .. } = write;
     let number = number_of(&name, &side.records);
     let stored = Stored {
         value,

@@ -3,15 +3,13 @@
 //! is read off the core.
 ghost use Rattle.std.specs.Prelude.{◌≡◌, map};
 ghost use Rattle.ca_world_data.specs.Seen.{joined_of, queue_of};
-ghost use Rattle.ca_world_servers.specs.Effects.{BeginsNew, HasRoomBy, is_busy_in, numbers_by};
-ghost use Rattle.ca_world_servers.specs.Effects.{wrote_in};
+ghost use Rattle.ca_world_servers.specs.Effects.{BeginsNew, HasRoomBy, numbers_by, wrote_in};
 ghost use Rattle.ca_world_servers.specs.Losing.{AreSeated};
 
 use crate::coming::Coming;
 use crate::handling::{begin_channel, begin_standing, end_channel, end_standing, switch_events};
 use ca_queue::SubKey;
 use ca_server_core::{Effect, ServerCore};
-use ca_text::Command;
 use ca_world_data::joined::Joined;
 
 /// What the message at this place did, on the channels and subscriptions of its circuit. There is
@@ -37,28 +35,16 @@ pub fn tell_on(joined: &mut Joined, effect: Effect, place: usize)
     }
 }
 
-/// Whether a write was applied, and then whether it made its record busy, by a message of this
-/// command whose step closed its end. It goes by the count of applied writes before it.
-pub fn wrote_of(
-    core: &ServerCore,
-    applied: u64,
-    command: u16,
-    write: &Option<Coming>,
-) -> Option<bool>
-    ensures { result ≡ wrote_in core.now applied command write.now }
+/// Whether this write was applied, and then whether it made its record busy, by a message whose
+/// step closed its end. It goes by the count of applied writes before it.
+pub fn wrote_of(core: &ServerCore, applied: u64, write: &Option<Coming>) -> Option<bool>
+    ensures { result ≡ wrote_in core.now applied write.now }
 {
     if core.applied() <= applied {
         return None;
     }
-    Some(command == Command::WriteNotify.number() && is_busy(core, write))
-}
-
-// Whether the record that the write names is busy.
-fn is_busy(core: &ServerCore, write: &Option<Coming>) -> bool
-    ensures { result ≡ is_busy_in core.now write.now }
-{
     match write {
-        Some(write) => core.busy_value(&write.name).is_some(),
-        None => false,
+        Some(write) => Some(write.busies),
+        None => None,
     }
 }

@@ -136,14 +136,7 @@ pub fn end_standing(joined: &mut Joined, key: SubKey)
     ensures { joined_of joined.new ≡ world.without_standing (same key) (joined_of joined.old) }
 {
     cancel_in(&mut joined.queues, key);
-    joined.standing.retain(|one| !is_same(key, one.key));
-}
-
-// Whether both are one subscription.
-fn is_same(a: SubKey, b: SubKey) -> bool
-    ensures { result ≡ same a b }
-{
-    a.sid == b.sid && a.sub == b.sub
+    joined.standing.retain(|one| key != one.key);
 }
 
 /// The channel of this SID is over, and so are its subscriptions.

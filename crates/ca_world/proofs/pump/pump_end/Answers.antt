@@ -22,7 +22,7 @@ open-from c =
     let j : Joined = c.args.joined.now in
     let us : List Update = c.pump.ensures.0 in
     let rooms : List (List (Vec ℕ Global)) = map deque_items c.args.rooms.items in
-    let r : Resting old j.at_server us mid = pumped-open old mid j.at_server us c.requires.serves c.pump.ensures.1 (sym c.serves.ensures ∙ c.if-serves.true) in
+    let r : Resting old j.at_server us mid = pumped-open old mid j.at_server us c.requires.serves c.pump.ensures.1 (sym c.is_open.ensures ∙ c.if-is_open.true) in
     open-within old mid j us _ c.out_bytes.result.now (c.requires.fits us mid c.pump.ensures.1) c.requires.alike rooms c.requires.ready r (ap (λ (l : List ℕ). length l) c.out_bytes-waited.ensures) c.out_bytes.ensures
 
 pub slice_bounds-tell_updates-count : goal.slice_bounds-tell_updates-count
@@ -40,12 +40,12 @@ tell_updates-requires c =
     let rooms : List (List (Vec ℕ Global)) = map deque_items c.args.rooms.items in
     let bytes : List ℕ = c.out_bytes.result.now in
     let waited : ℕ = length c.out_bytes-waited.result.now in
-    let r : Resting old j.at_server us mid = pumped-open old mid j.at_server us c.requires.serves c.pump.ensures.1 (sym c.serves.ensures ∙ c.if-serves.true) in
+    let r : Resting old j.at_server us mid = pumped-open old mid j.at_server us c.requires.serves c.pump.ensures.1 (sym c.is_open.ensures ∙ c.if-is_open.true) in
     subst (λ (b : List ℕ). (e : ServerEnd) × (vs : List Update) × MayTell e vs b j rooms) (sym (rest-is bytes waited))
     (open-tells old mid j us waited bytes (c.requires.fits us mid c.pump.ensures.1) c.requires.alike rooms c.requires.ready r (ap (λ (l : List ℕ). length l) c.out_bytes-waited.ensures) c.out_bytes.ensures)
 
-pub returns-then-serves : goal.returns-then-serves
-returns-then-serves c =
+pub returns-then-is_open : goal.returns-then-is_open
+returns-then-is_open c =
     let old : Server = c.args.core.now in
     let mid : Server = c.pump.new.self in
     let j : Joined = c.args.joined.now in
@@ -53,7 +53,7 @@ returns-then-serves c =
     let rooms : List (List (Vec ℕ Global)) = map deque_items c.args.rooms.items in
     let bytes : List ℕ = c.out_bytes.result.now in
     let waited : ℕ = length c.out_bytes-waited.result.now in
-    let r : Resting old j.at_server us mid = pumped-open old mid j.at_server us c.requires.serves c.pump.ensures.1 (sym c.serves.ensures ∙ c.if-serves.true) in
+    let r : Resting old j.at_server us mid = pumped-open old mid j.at_server us c.requires.serves c.pump.ensures.1 (sym c.is_open.ensures ∙ c.if-is_open.true) in
     open-told old mid j us waited bytes (c.requires.fits us mid c.pump.ensures.1) c.requires.alike rooms c.requires.ready r (ap (λ (l : List ℕ). length l) c.out_bytes-waited.ensures) c.out_bytes.ensures
     (joined_of c.tell_updates.new.joined)
     (subst (λ (b : List ℕ). TellsUpdates b j rooms (joined_of c.tell_updates.new.joined)) (rest-is bytes waited) c.tell_updates.ensures)
@@ -65,7 +65,7 @@ over-from c =
     let j : Joined = c.args.joined.now in
     let us : List Update = c.pump.ensures.0 in
     let rooms : List (List (Vec ℕ Global)) = map deque_items c.args.rooms.items in
-    let r : Ending old j.at_server us mid = pumped-over old mid j.at_server us c.requires.serves c.pump.ensures.1 (sym c.serves.ensures ∙ c.if-serves.false) in
+    let r : Ending old j.at_server us mid = pumped-over old mid j.at_server us c.requires.serves c.pump.ensures.1 (sym c.is_open.ensures ∙ c.if-is_open.false) in
     over-within old mid j us _ c.bytes.result.now (c.requires.fits us mid c.pump.ensures.1) c.requires.alike rooms c.requires.ready r (ap (λ (l : List ℕ). length l) c.out_bytes-waited.ensures)
     (stepped c.step-did.result) c.step-did.new.self c.step-did.ensures.steps (c.bytes.ensures ∙ c.left_by-left.ensures)
 
@@ -84,7 +84,7 @@ tell_updates-requires-2 c =
     let rooms : List (List (Vec ℕ Global)) = map deque_items c.args.rooms.items in
     let bytes : List ℕ = c.bytes.result.now in
     let waited : ℕ = length c.out_bytes-waited.result.now in
-    let r : Ending old j.at_server us mid = pumped-over old mid j.at_server us c.requires.serves c.pump.ensures.1 (sym c.serves.ensures ∙ c.if-serves.false) in
+    let r : Ending old j.at_server us mid = pumped-over old mid j.at_server us c.requires.serves c.pump.ensures.1 (sym c.is_open.ensures ∙ c.if-is_open.false) in
     subst (λ (b : List ℕ). (e : ServerEnd) × (vs : List Update) × MayTell e vs b j rooms) (sym (rest-is bytes waited))
     (over-tells old mid j us waited bytes (c.requires.fits us mid c.pump.ensures.1) c.requires.alike rooms c.requires.ready r (ap (λ (l : List ℕ). length l) c.out_bytes-waited.ensures)
     (stepped c.step-did.result) c.step-did.new.self c.step-did.ensures.steps (c.bytes.ensures ∙ c.left_by-left.ensures))
@@ -98,7 +98,7 @@ returns c =
     let rooms : List (List (Vec ℕ Global)) = map deque_items c.args.rooms.items in
     let bytes : List ℕ = c.bytes.result.now in
     let waited : ℕ = length c.out_bytes-waited.result.now in
-    let r : Ending old j.at_server us mid = pumped-over old mid j.at_server us c.requires.serves c.pump.ensures.1 (sym c.serves.ensures ∙ c.if-serves.false) in
+    let r : Ending old j.at_server us mid = pumped-over old mid j.at_server us c.requires.serves c.pump.ensures.1 (sym c.is_open.ensures ∙ c.if-is_open.false) in
     subst (λ (l : List ℕ). PumpsUntil old (joined_of j) (Some l) c.step-did.new.self (joined_of c.tell_updates-2.new.joined)) c.bytes.ensures
     (over-told old mid j us waited bytes (c.requires.fits us mid c.pump.ensures.1) c.requires.alike rooms c.requires.ready r (ap (λ (l : List ℕ). length l) c.out_bytes-waited.ensures)
     (stepped c.step-did.result) c.step-did.new.self c.step-did.ensures.steps (c.bytes.ensures ∙ c.left_by-left.ensures)

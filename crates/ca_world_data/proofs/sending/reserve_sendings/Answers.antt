@@ -1,4 +1,4 @@
-use Rattle.std.proofs.Common.{ℕ, List, get_or, map, refl, sym, subst, ◌∙◌}
+use Rattle.std.proofs.Common.{◌≡◌, ℕ, List, ap, arith, get_or, length, map, refl, sym, subst, ◌∙◌}
 use Rattle.std.specs.Prelude.{MatchOption}
 use Rattle.ca_client_core.specs.declared.for_histories.Sending.{Sending}
 use Rattle.ca_model.specs.World as model
@@ -8,6 +8,7 @@ use Rattle.ca_world_data.specs.Found.{AreNumbered, IsAt, IsNowhere}
 use Rattle.ca_world_data.specs.Seen.{joined_of}
 use Rattle.ca_world_data.specs.Speaking.{GoesBy, HasRoomUp}
 use Rattle.ca_world_data.proofs.Going.{goes-by, room-all, room-made}
+use Rattle.ca_world_data.proofs.Withdrawals.{on-err}
 use Rattle.ca_world_data.proofs.Worlds.{found}
 use Rattle.ca_world_data.proofs.sending.reserve_sendings.Goals as goal
 
@@ -29,6 +30,10 @@ loop-place-preserved c =
       same = c.reserve_sent.ensures.same ∙ c.loop-place.invariant.same;
       room = room-made i c.args.numbers.now sent c.loop-place.place s ks ks' o numbered c.loop-place.invariant.room at by c.reserve_sent.ensures.same made c.reserve_sent.ensures.keeps;
     }
+
+pub returns-in_err-reserve_sent-clause-some : goal.returns-in_err-reserve_sent-clause-some
+returns-in_err-reserve_sent-clause-some c =
+    on-err c.from_residual.result (λ none. (let no : length c.args.sendings.now ≡ 0 = ap length none in omega (arith, c.loop-place-test.true, no)))
 
 pub returns-clause-room : goal.returns-clause-room
 returns-clause-room c = room-all c.args.client c.args.sendings.now c.loop-place.place c.loop-place.circuits.items c.loop-place-test.false c.loop-place.invariant.room

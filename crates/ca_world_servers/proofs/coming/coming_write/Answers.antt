@@ -1,11 +1,12 @@
-use Rattle.std.proofs.Common.{◌≡◌, ℕ, Option, Some, None, subst, ◌∙◌}
+use Rattle.std.proofs.Common.{◌≡◌, ℕ, Option, Some, None, ap, subst, ◌∙◌}
 use Rattle.std.specs.Prelude.{option_map}
 use Rattle.ca_dbr.specs.declared.value.Value.{Value}
-use Rattle.ca_dbr.specs.Elements.{Elements, base_of, elements}
+use Rattle.ca_dbr.specs.Elements.{base_of, elements}
 use Rattle.ca_ids.specs.Table.{under}
+use Rattle.ca_records.specs.Record.{RecordState}
 use Rattle.ca_server_core.specs.Asking.{NamesUnder}
 use Rattle.ca_world_servers.specs.Coming.{GivesValue}
-use Rattle.ca_world_servers.proofs.Forthcoming.{none-given, none-named, none-valued, write-given}
+use Rattle.ca_world_servers.proofs.Forthcoming.{none-given, none-named, none-known, write-given}
 use Rattle.ca_world_servers.proofs.coming.coming_write.Goals as goal
 
 pub returns-in_default : goal.returns-in_default
@@ -15,32 +16,32 @@ returns-in_default c =
     subst (λ (n : ℕ). NamesUnder (under c.args.core.now.circuits c.args.circuit) n None) is c.in_default.ensures in
     none-named c.args.core.now c.args.circuit c.args.message.now none
 
-pub returns-in_default-value_of : goal.returns-in_default-value_of
-returns-in_default-value_of c =
+pub returns-in_default-record : goal.returns-in_default-record
+returns-in_default-record c =
     let is : c.new.result ≡ c.args.message.now.p1 = c.new.ensures ∙ c.p1.ensures in
     let named : NamesUnder (under c.args.core.now.circuits c.args.circuit) c.args.message.now.p1 (Some c.in-Some.name.now) =
     subst (λ (n : ℕ). NamesUnder (under c.args.core.now.circuits c.args.circuit) n (Some c.in-Some.name.now)) is c.in-Some.ensures in
-    none-valued c.args.core.now c.args.circuit c.args.message.now c.in-Some.name.now named c.in_default-value_of.ensures
+    none-known c.args.core.now c.args.circuit c.args.message.now c.in-Some.name.now named c.in_default-record.ensures
 
 pub returns-in_default-2 : goal.returns-in_default-2
 returns-in_default-2 c =
     let is : c.new.result ≡ c.args.message.now.p1 = c.new.ensures ∙ c.p1.ensures in
     let named : NamesUnder (under c.args.core.now.circuits c.args.circuit) c.args.message.now.p1 (Some c.in-Some.name.now) =
     subst (λ (n : ℕ). NamesUnder (under c.args.core.now.circuits c.args.circuit) n (Some c.in-Some.name.now)) is c.in-Some.ensures in
-    let value : Elements = elements c.in-Some-value_of.present.now in
+    let s : RecordState = c.in-Some-record.present.now in
     let given : GivesValue c.args.message.now c.base_type.result None =
-    subst (λ (o : Option Value). GivesValue c.args.message.now c.base_type.result (option_map elements o)) c.in_default-2.is c.in_ok-value.ensures in
-    let gives : GivesValue c.args.message.now (base_of value) None = subst (λ b. GivesValue c.args.message.now b None) c.base_type.ensures given in
-    none-given c.args.core.now c.args.circuit c.args.message.now c.in-Some.name.now named value c.in-Some-value_of.ensures gives
+    subst (λ (o : Option Value). GivesValue c.args.message.now c.base_type.result (option_map elements o)) c.in_default-2.is c.in_ok-given.ensures in
+    let gives : GivesValue c.args.message.now (base_of s.value) None = subst (λ b. GivesValue c.args.message.now b None) (c.base_type.ensures ∙ ap base_of c.value.ensures.value) given in
+    none-given c.args.core.now c.args.circuit c.args.message.now c.in-Some.name.now named s c.in-Some-record.ensures gives
 
 pub returns : goal.returns
 returns c =
     let is : c.new.result ≡ c.args.message.now.p1 = c.new.ensures ∙ c.p1.ensures in
     let named : NamesUnder (under c.args.core.now.circuits c.args.circuit) c.args.message.now.p1 (Some c.in-Some.name.now) =
     subst (λ (n : ℕ). NamesUnder (under c.args.core.now.circuits c.args.circuit) n (Some c.in-Some.name.now)) is c.in-Some.ensures in
-    let value : Elements = elements c.in-Some-value_of.present.now in
-    let given : GivesValue c.args.message.now c.base_type.result (Some (elements c.in-Some-2.value)) =
-    subst (λ (o : Option Value). GivesValue c.args.message.now c.base_type.result (option_map elements o)) c.in-Some-2.is c.in_ok-value.ensures in
-    let gives : GivesValue c.args.message.now (base_of value) (Some (elements c.in-Some-2.value)) = subst (λ b. GivesValue c.args.message.now b (Some (elements c.in-Some-2.value))) c.base_type.ensures given in
-    write-given c.args.core.now c.args.circuit c.args.message.now c.in-Some.name.now named value c.in-Some-value_of.ensures
-    (record { name = c.in_ok-name.name; value = c.in-Some-2.value }) c.in_ok-name.ensures.items gives
+    let s : RecordState = c.in-Some-record.present.now in
+    let given : GivesValue c.args.message.now c.base_type.result (Some (elements c.in-Some-2.given)) =
+    subst (λ (o : Option Value). GivesValue c.args.message.now c.base_type.result (option_map elements o)) c.in-Some-2.is c.in_ok-given.ensures in
+    let gives : GivesValue c.args.message.now (base_of s.value) (Some (elements c.in-Some-2.given)) = subst (λ b. GivesValue c.args.message.now b (Some (elements c.in-Some-2.given))) (c.base_type.ensures ∙ ap base_of c.value.ensures.value) given in
+    write-given c.args.core.now c.args.circuit c.args.message.now c.in-Some.name.now named s c.in-Some-record.ensures
+    (record { name = c.in_ok-name.name; value = c.in-Some-2.given; busies = c.makes_busy-busies.result }) c.in_ok-name.ensures.items c.makes_busy-busies.ensures gives
