@@ -7,3 +7,4 @@ pub mod Ten
 pub mod Digits
 pub mod Roundings
 pub mod Sizes
+pub mod Shown

@@ -275,6 +275,59 @@ fn images_of_rows(rt: HostRuntime) -> Result<(), Fail> {
     Ok(())
 }
 
+// One record, of a DOUBLE, as it is shown in each type: so its images were recorded.
+#[test]
+fn images_of_one_record(rt: HostRuntime) -> Result<(), Fail> {
+    let alloc = rt.alloc();
+    let display = gain(alloc)?;
+    let value = Value::Doubles(vec![in alloc; 0x4006_0000_0000_0000]?);
+    for (number, image) in [
+        (21, IMAGE_21.as_slice()),
+        (22, &IMAGE_22),
+        (23, &IMAGE_23),
+        (25, &IMAGE_25),
+        (26, &IMAGE_26),
+        (27, &IMAGE_27),
+        (28, &IMAGE_28),
+        (29, &IMAGE_29),
+        (30, &IMAGE_30),
+        (32, &IMAGE_32),
+        (33, &IMAGE_33),
+        (34, &IMAGE_34),
+    ] {
+        assert!(rt; has_image(alloc, number, &value, &Meta::ZERO, &display, image)?);
+    }
+    Ok(())
+}
+
+// The types without display data: plain, with status, and with a time stamp.
+#[test]
+fn images_without_display_data(rt: HostRuntime) -> Result<(), Fail> {
+    let alloc = rt.alloc();
+    let display = gain(alloc)?;
+    let value = Value::Doubles(vec![in alloc; 0x4006_0000_0000_0000]?);
+    let meta = Meta {
+        seconds: 258,
+        nanos: 3,
+        ..ALARM
+    };
+    let mut plain = [0; 40];
+    plain[..5].copy_from_slice(b"2.750");
+    assert!(rt; has_image(alloc, 0, &value, &meta, &display, &plain)?);
+    let double = [0x40, 0x06, 0, 0, 0, 0, 0, 0];
+    assert!(rt; has_image(alloc, 6, &value, &meta, &display, &double)?);
+    let status = [0, 7, 0, 1, 0, 0, 0, 2];
+    assert!(rt; has_image(alloc, 12, &value, &meta, &display, &status)?);
+    let time = [0, 7, 0, 1, 0, 0, 1, 2, 0, 0, 0, 3, 0, 0, 0, 2];
+    assert!(rt; has_image(alloc, 15, &value, &meta, &display, &time)?);
+    // Three elements are wanted, and two are there.
+    let longs = Value::Longs(vec![in alloc; 1, -2]?);
+    let mut bytes = Vec::new(alloc);
+    write_display(1, 3, &longs, &meta, &display, &mut bytes)?;
+    assert!(rt; bytes.ends_with(&[0, 1, 0xff, 0xfe, 0, 0]) && bytes.len() == 6);
+    Ok(())
+}
+
 /// The text in a STRING.
 fn text(bytes: &[u8]) -> [u8; 40] {
     let mut field = [0; 40];
@@ -485,11 +538,17 @@ fn refusals(rt: HostRuntime) -> Result<(), Fail> {
     let value = Value::Longs(vec![in alloc; 2]?);
     let mut display = gain(alloc)?;
     let mut bytes = vec![in alloc; 9]?;
-    for number in [20, 22, 24, 35] {
+    for number in [35, 65535] {
         let result = write_display(number, 1, &value, &Meta::ZERO, &display, &mut bytes);
         assert!(rt; result == Err(Refusal::BadType));
+        assert!(rt; display_size(number, 1) == Err(Refusal::BadType));
     }
+    // 300 is no CHAR; as the second of two elements it does not matter to a read of one.
+    let longs = Value::Longs(vec![in alloc; 2, 300]?);
+    let result = write_display(25, 2, &longs, &Meta::ZERO, &display, &mut bytes);
+    assert!(rt; result == Err(Refusal::OutOfRange));
     assert!(rt; bytes.ends_with(&[9]) && bytes.len() == 1);
+    assert!(rt; has_image(alloc, 25, &longs, &Meta::ZERO, &display, &IMAGE_25)?);
     assert!(rt; Display::new(alloc, b"12345678", 0, LIMITS) == Err(Refusal::NameLength));
     assert!(rt; display.add_state(b"a name that is too long, by") == Err(Refusal::NameLength));
     for _ in 0..16 {
