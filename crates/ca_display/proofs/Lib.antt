@@ -8,3 +8,4 @@ pub mod Digits
 pub mod Roundings
 pub mod Sizes
 pub mod Shown
+pub mod Alarms

@@ -4,7 +4,9 @@
 //! an `mbbo` of three states. Where C leaves bytes as they were (padding, and a text after its zero
 //! byte), there are zero bytes in place of what came.
 use ca_dbr::{BaseType, Meta, Value};
-use ca_display::{Display, Limits, convert_display, display_size, read_display, write_display};
+use ca_display::{
+    Display, Limits, alarm_of, convert_display, display_size, read_display, write_display,
+};
 use ca_text::Refusal;
 use std::alloc::Global;
 use std::test::Fail;
@@ -529,6 +531,37 @@ fn floats_as_texts(rt: HostRuntime) -> Result<(), Fail> {
         let value = Value::Floats(vec![in alloc; bits]?);
         assert!(rt; has_text(alloc, &value, precision, bytes)?);
     }
+    Ok(())
+}
+
+// By HIHI 90.5, HIGH 80.25, LOW -10.5 and LOLO -15.75, as the fields of an `ao` are described.
+#[test]
+fn alarms(rt: HostRuntime) -> Result<(), Fail> {
+    let alloc = rt.alloc();
+    for (bits, alarm) in [
+        (0x4056_a000_0000_0000, (3, 2)),
+        (0x4056_9000_0000_0000, (4, 1)),
+        (0x4054_1000_0000_0000, (4, 1)),
+        (0x4054_0000_0000_0000, (0, 0)),
+        (0xc024_0000_0000_0000, (0, 0)),
+        (0xc025_0000_0000_0000, (6, 1)),
+        (0xc02f_0000_0000_0000, (6, 1)),
+        (0xc02f_8000_0000_0000, (5, 2)),
+        (0x7ff8_0000_0000_0000, (0, 0)),
+    ] {
+        let value = Value::Doubles(vec![in alloc; bits]?);
+        assert!(rt; alarm_of(LIMITS, &value) == alarm);
+    }
+    let value = Value::Longs(vec![in alloc; 91]?);
+    assert!(rt; alarm_of(LIMITS, &value) == (3, 2));
+    let value = Value::Chars(vec![in alloc; 81]?);
+    assert!(rt; alarm_of(LIMITS, &value) == (4, 1));
+    let value = Value::Floats(vec![in alloc; 0xc180_0000]?);
+    assert!(rt; alarm_of(LIMITS, &value) == (5, 2));
+    let value = Value::Ints(vec![in alloc; 91, 91]?);
+    assert!(rt; alarm_of(LIMITS, &value) == (0, 0));
+    let value = Value::Enums(vec![in alloc; 91]?);
+    assert!(rt; alarm_of(LIMITS, &value) == (0, 0));
     Ok(())
 }
 
