@@ -9,7 +9,7 @@ use Rattle.ca_dbr.specs.declared.data_type.Form.TheVariants as plain_form
 use Rattle.ca_dbr.specs.declared.data_type.DataType.{DataType}
 use Rattle.ca_dbr.specs.declared.value.Meta.{Meta}
 use Rattle.ca_dbr.specs.Types.{base_number, type_number, element_size, size_of_image}
-use Rattle.ca_dbr.specs.Elements.{Elements, strings, ints, floats, enums, chars, longs, doubles, base_of, bytes_of}
+use Rattle.ca_dbr.specs.Elements.{Elements, base_of, bytes_of}
 use Rattle.ca_dbr.specs.Image.{image, meta_bytes}
 use Rattle.ca_dbr.specs.Shown.{shown, WritesShown}
 use Rattle.ca_dbr.proofs.OneReading.{base_number-one, base_number-small, type_number-one}
@@ -19,7 +19,7 @@ use Rattle.ca_display.specs.declared.display_type.DisplayType.{DisplayType}
 use Rattle.ca_display.specs.declared.display_type.DisplayForm.TheVariants as form
 use Rattle.ca_display.specs.declared.image_type.ImageType.{ImageType}
 use Rattle.ca_display.specs.declared.image_type.ImageType.TheVariants as any
-use Rattle.ca_display.specs.Types.{base_in, display_number, form_number}
+use Rattle.ca_display.specs.Types.{base_in, display_number, form_number, image_number}
 use Rattle.ca_display.specs.Limits.{limits_in}
 use Rattle.ca_display.specs.Data.{DisplayData}
 use Rattle.ca_display.specs.Image.{PutsOwn, WritesIn, data_bytes, display_image}
@@ -107,8 +107,7 @@ forms-one form.Graphic form.Control b c p q e = absurd (omega arith)
 forms-one form.Control form.Graphic b c p q e = absurd (omega arith)
 forms-one form.Control form.Control b c p q e = (refl, omega arith)
 
--- a number names one type
-pub display_number-one : (s t : DisplayType) → display_number s ≡ display_number t → s ≡ t
+display_number-one : (s t : DisplayType) → display_number s ≡ display_number t → s ≡ t
 display_number-one s t e =
     let parts = forms-one s.form t.form (base_number s.base) (base_number t.base) (base_number-small s.base) (base_number-small t.base) e in
     let based = base_number-one s.base t.base parts.1 in
@@ -116,6 +115,23 @@ display_number-one s t e =
     ap (λ (b : BaseType). made b s.form) based ∙ ap (λ (f : DisplayForm). made t.base f) parts.0
 
 -- ---- any type
+
+display_number-large : (t : DisplayType) → 20 < display_number t
+display_number-large t = large t.form (base_number t.base)
+  where
+    large : (f : DisplayForm) (n : ℕ) → 20 < n + form_number f
+    large form.Graphic n = omega arith
+    large form.Control n = omega arith
+
+apart : (s : DataType) (t : DisplayType) → type_number s ≡ display_number t → ⊥
+apart s t e = omega (arith, type_number-small s, display_number-large t, e)
+
+-- a number names one type
+pub image_number-one : (s t : ImageType) → image_number s ≡ image_number t → s ≡ t
+image_number-one (any.Data s) (any.Data t) e = ap (λ (x : DataType). any.Data x) (type_number-one s t e)
+image_number-one (any.Data s) (any.Display t) e = absurd (apart s t e)
+image_number-one (any.Display s) (any.Data t) e = absurd (apart t s (sym e))
+image_number-one (any.Display s) (any.Display t) e = ap (λ (x : DisplayType). any.Display x) (display_number-one s t e)
 
 -- no type has a number over 34, if those below 21 and the others are told apart
 pub above_all : (number : ℕ) → (number < 21) ⊎ (34 < number) → 20 < number → 34 < number

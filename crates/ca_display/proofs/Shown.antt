@@ -10,7 +10,7 @@ use Rattle.ca_dbr.specs.Elements.{Elements, strings, ints, floats, enums, chars,
 use Rattle.ca_dbr.specs.Number.{text_of}
 use Rattle.ca_dbr.specs.Conversion.{Fails, first_and, gathered, in_signed, in_unsigned, then_elements}
 use Rattle.ca_dbr.specs.Shown.{first_elements, shown, with_zeros, zeros_behind}
-use Rattle.ca_dbr.proofs.Shows.{converted-based, converted-counted}
+use Rattle.ca_dbr.proofs.Shows.{converted-based, converted-counted, shown-is}
 use Rattle.ca_display.specs.declared.number.Number.{Number}
 use Rattle.ca_display.specs.Data.{DisplayData}
 use Rattle.ca_display.specs.Number.{as_double, as_float, float_text}
@@ -145,6 +145,14 @@ shows-converted d e g count b h =
     let rest : count - count_of e ≡ count - count_of g = omega (arith, size) in
     let own : shown g count b ≡ okay (with_zeros (count - count_of g) (first_elements count g)) = subst (λ (c : BaseType). shown g count c ≡ okay (with_zeros (count - count_of g) (first_elements count g))) is.0 (own-shown g count) in
     ap (λ (r : Result Elements Refusal). zeros_behind (count - count_of e) r) h ∙ ap₂ (λ (n : ℕ) (x : Elements). okay (with_zeros n x)) rest (sym whole) ∙ sym own
+
+-- what is shown has the wanted type, and as many elements as are wanted
+pub display_shown-is : (d : DisplayData) (e f : Elements) (count : ℕ) (b : BaseType) → display_shown d e count b ≡ Ok f → (base_of f ≡ b) × (count_of f ≡ count)
+display_shown-is d e f count b h = go (display_converted d (first_elements count e) b) refl
+  where
+    go : (r : Result Elements Refusal) → display_converted d (first_elements count e) b ≡ r → (base_of f ≡ b) × (count_of f ≡ count)
+    go (Ok g) is = shown-is g count b f (sym (shows-converted d e g count b is) ∙ h)
+    go (Err k) is = absurd (no_err k f (sym (ap (λ (r : Result Elements Refusal). zeros_behind (count - count_of e) r) is) ∙ h))
 
 -- ---- what is not shown
 
