@@ -18,14 +18,16 @@ use Rattle.ca_dbr.specs.Elements.{Elements, base_of, count_of, bytes_of, IsValue
 use Rattle.ca_dbr.specs.Image.{meta_bytes}
 use Rattle.ca_dbr.specs.Reading.{carried, IsMeta, ReadsElements}
 use Rattle.ca_dbr.proofs.Images.{length-bytes_of, length-meta_bytes}
-use Rattle.ca_dbr.proofs.OneReading.{reads-image}
+use Rattle.ca_dbr.proofs.OneReading.{length-image, reads-image}
 use Rattle.ca_display.specs.declared.display_type.DisplayForm.{DisplayForm}
 use Rattle.ca_display.specs.declared.display_type.DisplayForm.TheVariants as form
 use Rattle.ca_display.specs.declared.display_type.DisplayType.{DisplayType}
-use Rattle.ca_display.specs.Types.{limit_count}
+use Rattle.ca_display.specs.declared.image_type.ImageType.{ImageType}
+use Rattle.ca_display.specs.declared.image_type.ImageType.TheVariants as any
+use Rattle.ca_display.specs.Types.{base_in, limit_count}
 use Rattle.ca_display.specs.Limits.{int_limit, char_limit, long_limit, float_limit, double_limit, limits_in}
 use Rattle.ca_display.specs.Data.{DisplayData, IsData}
-use Rattle.ca_display.specs.Image.{data_bytes, limit_bytes, display_image, size_of_display}
+use Rattle.ca_display.specs.Image.{data_bytes, limit_bytes, display_image, image_in, size_in, size_of_display}
 use Rattle.ca_display.specs.Reading.{ReadsLimits, ReadsWhole, ReadsData, ReadsDisplay, limits_carried, whole_carried, carried_data}
 use Rattle.ca_display.proofs.Images.{plain, zero_meta, base_of-limits}
 use Rattle.ca_display.proofs.Readings.{plain_body, data_sized}
@@ -152,9 +154,13 @@ display_again t e m d behind based valued is_meta is_data =
     }
 
 -- how long an image is
-pub length-display : (t : DisplayType) (e : Elements) (m : Meta) (d : DisplayData) → t.base ≡ base_of e → IsValue e → IsData d → length (display_image t e m d) ≡ size_of_display t (count_of e)
+length-display : (t : DisplayType) (e : Elements) (m : Meta) (d : DisplayData) → t.base ≡ base_of e → IsValue e → IsData d → length (display_image t e m d) ≡ size_of_display t (count_of e)
 length-display t e m d based valued is =
     let middle : List ℕ = data_bytes t.base t.form d in
     let alarm : List ℕ = meta_bytes plain_form.Status m in
     let size : length (bytes_of e) ≡ count_of e * element_size t.base = length-bytes_of e valued ∙ ap (λ (b : BaseType). count_of e * element_size b) (sym based) in
     length-append alarm (middle ++ bytes_of e) ∙ omega (arith, length-append middle (bytes_of e), length-meta_bytes plain_form.Status m, data_sized t.base t.form middle (carried_data t.base t.form d) (data_again t.form d is t.base), size)
+
+pub length-any : (t : ImageType) (e : Elements) (m : Meta) (d : DisplayData) → base_in t ≡ base_of e → IsValue e → IsData d → length (image_in t e m d) ≡ size_in t (count_of e)
+length-any (any.Data t) e m d based valued is = length-image t e m based valued
+length-any (any.Display t) e m d based valued is = length-display t e m d based valued is

@@ -7,3 +7,5 @@ pub mod Ten
 pub mod Digits
 pub mod Roundings
 pub mod Sizes
+pub mod Shown
+pub mod Alarms

@@ -1,13 +1,15 @@
 -- Conversions of values of records with display data: each type to each other, element by element.
-use Rattle.std.specs.Prelude.{ℕ, ℤ, pos, Bool, List, Result, Ok, Err, from_bits, unsigned_abs}
+use Rattle.std.specs.Prelude.{ℕ, ℤ, pos, ◌-◌, Bool, List, Result, Ok, Err, from_bits, unsigned_abs}
 use Rattle.std.specs.Float.{binary32, binary64}
 use Rattle.ca_text.specs.declared.refusal.Refusal.{Refusal}
 use Rattle.ca_text.specs.declared.refusal.Refusal.TheVariants as refusal
 use Rattle.ca_dbr.specs.declared.data_type.BaseType.{BaseType}
 use Rattle.ca_dbr.specs.declared.data_type.BaseType.TheVariants as base
 use Rattle.ca_dbr.specs.Elements.{Elements, strings, ints, floats, enums, chars, longs, doubles}
+use Rattle.ca_dbr.specs.Elements.{count_of}
 use Rattle.ca_dbr.specs.Number.{text_of}
 use Rattle.ca_dbr.specs.Conversion.{in_signed, in_unsigned, gathered, then_elements, converted}
+use Rattle.ca_dbr.specs.Shown.{first_elements, zeros_behind}
 use Rattle.ca_display.specs.declared.number.Number.{Number}
 use Rattle.ca_display.specs.declared.number.Number.TheVariants as number
 use Rattle.ca_display.specs.Data.{DisplayData}
@@ -107,3 +109,9 @@ display_converted d (doubles xs) base.Double = converted (doubles xs) base.Doubl
 display_converted d (doubles xs) base.String =
     then_elements strings (gathered (double_shown d) xs)
 display_converted d (doubles xs) b = in_numbers of_double xs b
+
+-- What a read shows: n elements, in a type. A count below the present one takes the first elements,
+-- before they are converted; after the present ones elements of zero bytes follow.
+abbrev pub display_shown : DisplayData → Elements → ℕ → BaseType → Result Elements Refusal
+display_shown d e count b =
+    zeros_behind (count - count_of e) (display_converted d (first_elements count e) b)

@@ -1,6 +1,6 @@
 -- Images with display data: the structs dbr_gr_short to dbr_ctrl_double of the protocol
 -- specification.
-use Rattle.std.specs.Prelude.{ℕ, ◌≡◌, ◌++◌, ◌-◌, ◌*◌, ◌+◌, ◌≤◌, ◌<◌, List, [], length, take}
+use Rattle.std.specs.Prelude.{ℕ, ◌≡◌, ◌++◌, ◌-◌, ◌*◌, ◌+◌, ◌≤◌, ◌<◌, ◌⊎◌, List, [], length, take}
 use Rattle.std.specs.Prelude.{replicate, Result, Ok, Err}
 use Rattle.std.specs.List.{flat_map}
 use Rattle.ca_text.specs.declared.refusal.Refusal.{Refusal}
@@ -9,14 +9,17 @@ use Rattle.ca_dbr.specs.declared.data_type.BaseType.{BaseType}
 use Rattle.ca_dbr.specs.declared.data_type.BaseType.TheVariants as base
 use Rattle.ca_dbr.specs.declared.data_type.Form.TheVariants as plain_form
 use Rattle.ca_dbr.specs.declared.value.Meta.{Meta}
-use Rattle.ca_dbr.specs.Types.{element_size}
-use Rattle.ca_dbr.specs.Elements.{Elements, base_of, bytes_2, bytes_of, signed_bytes_2}
+use Rattle.ca_dbr.specs.Types.{element_size, size_of_image}
+use Rattle.ca_dbr.specs.Elements.{Elements, bytes_2, bytes_of, signed_bytes_2}
 use Rattle.ca_dbr.specs.Elements.{string_bytes}
-use Rattle.ca_dbr.specs.Image.{meta_bytes}
+use Rattle.ca_dbr.specs.Image.{image, meta_bytes}
 use Rattle.ca_dbr.specs.Shown.{shown}
 use Rattle.ca_display.specs.declared.display_type.DisplayForm.{DisplayForm}
 use Rattle.ca_display.specs.declared.display_type.DisplayType.{DisplayType}
-use Rattle.ca_display.specs.Types.{display_number, limit_count, data_size}
+use Rattle.ca_display.specs.declared.image_type.ImageType.{ImageType}
+use Rattle.ca_display.specs.declared.image_type.ImageType.TheVariants as any
+use Rattle.ca_display.specs.Types.{image_number, base_in, limit_count, data_size}
+use Rattle.ca_display.specs.Conversion.{display_shown}
 use Rattle.ca_display.specs.Limits.{limits_in}
 use Rattle.ca_display.specs.Data.{DisplayData}
 
@@ -52,23 +55,41 @@ display_image t e m d = meta_bytes plain_form.Status m ++ (data_bytes t.base t.f
 abbrev pub size_of_display : DisplayType → ℕ → ℕ
 size_of_display t count = 4 + data_size t.base t.form + count * element_size t.base
 
--- a type with this number, for elements of this base type
-pub record DisplayTypes (number : ℕ) (e : Elements) (t : DisplayType) : Type 0 where
-  pub numbered : display_number t ≡ number
-  pub based : t.base ≡ base_of e
+-- the image in any type of a record with display data, and how many bytes that of n elements takes
+abbrev pub image_in : ImageType → Elements → Meta → DisplayData → List ℕ
+image_in (any.Data t) e m d = image t e m
+image_in (any.Display t) e m d = display_image t e m d
 
--- The image of n elements of these with display data was to be written after the old bytes, with
--- this answer, and left new: a count below theirs takes the first ones, and after all of them there
--- are elements of zero bytes.
+abbrev pub size_in : ImageType → ℕ → ℕ
+size_in (any.Data t) count = size_of_image t count
+size_in (any.Display t) count = size_of_display t count
+
+-- Why n elements of these are not shown in a type: there are over 16 states, an element does not
+-- convert, or there is no memory.
+abbrev pub IsUnshown : DisplayData → Elements → ℕ → BaseType → Refusal → Type 0
+IsUnshown d e count b r =
+    ((16 < length d.states) × (r ≡ refusal.BadCount))
+    ⊎ ((display_shown d e count b ≡ Err r) ⊎ (r ≡ refusal.OutOfMemory))
+
+-- The image of what a read shows of these in a type was to be written after the old bytes, with
+-- this answer, and left new.
+abbrev pub WritesIn : ImageType → ℕ → Elements → Meta → DisplayData → List ℕ
+    → Result (Unit {0}) Refusal → List ℕ → Type 0
+WritesIn t count e m d old (Ok _) new =
+    (length d.states ≤ 16)
+    × ((f : Elements) × (display_shown d e count (base_in t) ≡ Ok f)
+    × (new ≡ old ++ image_in t f m d))
+WritesIn t count e m d old (Err r) new = (new ≡ old) × IsUnshown d e count (base_in t) r
+
+-- the same in the type of this number, if there is one
 abbrev pub WritesDisplay : ℕ → ℕ → Elements → Meta → DisplayData → List ℕ
     → Result (Unit {0}) Refusal → List ℕ → Type 0
-WritesDisplay number count e m d old (Ok _) new =
-    (t : DisplayType) × DisplayTypes number e t × (length d.states ≤ 16)
-    × ((f : Elements) × (shown e count t.base ≡ Ok f) × (new ≡ old ++ display_image t f m d))
-WritesDisplay number count e m d old (Err refusal.BadType) new =
-    ((t : DisplayType) → DisplayTypes number e t → ⊥) × (new ≡ old)
-WritesDisplay number count e m d old (Err refusal.BadCount) new =
-    (16 < length d.states) × (new ≡ old)
-WritesDisplay number count e m d old (Err refusal.OutOfMemory) new =
-    (t : DisplayType) × DisplayTypes number e t × (new ≡ old)
-WritesDisplay number count e m d old (Err _) new = ⊥
+WritesDisplay number count e m d old r new =
+    ((34 < number) × (r ≡ Err refusal.BadType) × (new ≡ old))
+    ⊎ ((t : ImageType) × (image_number t ≡ number) × WritesIn t count e m d old r new)
+
+-- The image of n elements of these in a type of their own base was put after the old bytes, and
+-- left new.
+abbrev pub PutsOwn : ImageType → ℕ → Elements → Meta → DisplayData → List ℕ → List ℕ → Type 0
+PutsOwn t count e m d old new =
+    (f : Elements) × (shown e count (base_in t) ≡ Ok f) × (new ≡ old ++ image_in t f m d)

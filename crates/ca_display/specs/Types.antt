@@ -1,11 +1,14 @@
--- Types of images with display data (section "Payload Data Types"): graphic ones, and control ones.
+-- Types of images with display data (section "Payload Data Types"): graphic ones, and control ones;
+-- and of all images of a record that has display data.
 use Rattle.std.specs.Prelude.{ℕ, ◌+◌, ◌*◌}
 use Rattle.ca_dbr.specs.declared.data_type.BaseType.{BaseType}
 use Rattle.ca_dbr.specs.declared.data_type.BaseType.TheVariants as base
-use Rattle.ca_dbr.specs.Types.{base_number}
+use Rattle.ca_dbr.specs.Types.{base_number, type_number}
 use Rattle.ca_display.specs.declared.display_type.DisplayForm.{DisplayForm}
 use Rattle.ca_display.specs.declared.display_type.DisplayForm.TheVariants as form
 use Rattle.ca_display.specs.declared.display_type.DisplayType.{DisplayType}
+use Rattle.ca_display.specs.declared.image_type.ImageType.{ImageType}
+use Rattle.ca_display.specs.declared.image_type.ImageType.TheVariants as any
 
 -- what a form adds to the number of the plain type
 abbrev pub form_number : DisplayForm → ℕ
@@ -29,3 +32,12 @@ data_size base.Enum f = 418
 data_size base.Char f = 9 + limit_count f * 1
 data_size base.Long f = 8 + limit_count f * 4
 data_size base.Double f = 12 + limit_count f * 8
+
+-- any type: its number, and the type of its elements
+abbrev pub image_number : ImageType → ℕ
+image_number (any.Data t) = type_number t
+image_number (any.Display t) = display_number t
+
+abbrev pub base_in : ImageType → BaseType
+base_in (any.Data t) = t.base
+base_in (any.Display t) = t.base

@@ -1,11 +1,12 @@
 //! Conversions of values of records with display data.
-ghost use Rattle.std.specs.Prelude.{◌≡◌, ◌≢◌, ◌≤◌, [], Ok, Err, IsOk, length, vec_capacity};
+ghost use Rattle.std.specs.Prelude.{◌≡◌, ◌≢◌, ◌≤◌, ◌⊎◌, [], Ok, Err, IsOk, length, vec_capacity};
 ghost use Rattle.std.specs.Prelude.{MatchResult, IfOk, IfErr, Result};
 ghost use Rattle.ca_text.specs.declared.refusal.Refusal.{Refusal};
 ghost use Rattle.ca_text.specs.declared.refusal.Refusal.TheVariants.{OutOfMemory};
 ghost use Rattle.ca_dbr.specs.declared.data_type.BaseType.TheVariants as base_type;
 ghost use Rattle.ca_dbr.specs.Elements.{count_of, elements};
 ghost use Rattle.ca_dbr.specs.Conversion.{gathered, Fails};
+ghost use Rattle.ca_dbr.specs.Shown.{first_elements};
 ghost use Rattle.ca_display.specs.Data.{DisplayData, data_of};
 ghost use Rattle.ca_display.specs.Conversion.{state_of, enum_text, float_shown, double_shown};
 ghost use Rattle.ca_display.specs.Conversion.{in_numbers, display_converted};
@@ -16,7 +17,7 @@ use crate::real::real_text;
 use crate::states::{state_number, state_text};
 use ca_dbr::{BaseType, Value, convert_all, convert_to, text_of};
 use ca_text::Refusal;
-use std::alloc::Global;
+use std::alloc::{AllocError, Global};
 
 /// An element that display data shows in another type.
 trait DisplayShown<T>: Copy + Drop {
@@ -196,5 +197,44 @@ pub fn convert_display(
             Ok(Value::Strings(show_all(alloc, items, display)?))
         }
         (Value::Doubles(items), _) => to_numbers(alloc, items, base),
+    }
+}
+
+// A copy of the first n elements.
+fn copy_first(alloc: Global, value: &Value, count: usize) -> Result<Value, AllocError>
+    requires { count ≤ count_of (elements value.now) }
+    ensures { IfOk result (λ v. elements v ≡ first_elements count (elements value.now)) }
+{
+    match value {
+        Value::Strings(items) => Ok(Value::Strings(Vec::from_slice(alloc, &items[..count])?)),
+        Value::Ints(items) => Ok(Value::Ints(Vec::from_slice(alloc, &items[..count])?)),
+        Value::Floats(items) => Ok(Value::Floats(Vec::from_slice(alloc, &items[..count])?)),
+        Value::Enums(items) => Ok(Value::Enums(Vec::from_slice(alloc, &items[..count])?)),
+        Value::Chars(items) => Ok(Value::Chars(Vec::from_slice(alloc, &items[..count])?)),
+        Value::Longs(items) => Ok(Value::Longs(Vec::from_slice(alloc, &items[..count])?)),
+        Value::Doubles(items) => Ok(Value::Doubles(Vec::from_slice(alloc, &items[..count])?)),
+    }
+}
+
+/// The first n elements of a value, or all if there are fewer, in a type, as `convert_display`
+/// converts them.
+pub(crate) fn convert_first(
+    alloc: Global,
+    value: &Value,
+    count: usize,
+    base: BaseType,
+    display: &Display,
+) -> Result<Value, Refusal>
+    ensures ok { IfOk result (λ v. display_converted (data_of display.now)
+        (first_elements count (elements value.now)) base ≡ Ok (elements v)) }
+    ensures err { IfErr result (λ e. (display_converted (data_of display.now)
+        (first_elements count (elements value.now)) base ≡ Err e) ⊎ (e ≡ OutOfMemory)) }
+{
+    if value.count() <= count {
+        return convert_display(alloc, value, base, display);
+    }
+    match copy_first(alloc, value, count) {
+        Err(_) => Err(Refusal::OutOfMemory),
+        Ok(first) => convert_display(alloc, &first, base, display),
     }
 }

@@ -1,20 +1,24 @@
 //! Images with display data, written: what is before the elements, and the elements.
-ghost use Rattle.std.specs.Prelude.{◌≡◌, ◌≤◌, ◌<◌, ◌⊎◌, ◌++◌, ◌+◌, ◌-◌, ◌*◌, length, replicate};
-ghost use Rattle.std.specs.Prelude.{IfErr, MatchResult, vec_len, vec_capacity};
+ghost use Rattle.std.specs.Prelude.{◌≡◌, ◌≢◌, ◌≤◌, ◌<◌, ◌⊎◌, ◌++◌, ◌+◌, ◌-◌, ◌*◌, length};
+ghost use Rattle.std.specs.Prelude.{IfErr, MatchResult, OnErr, OnOk, replicate, vec_len};
+ghost use Rattle.std.specs.Prelude.{vec_capacity};
 ghost use Rattle.std.specs.List.{flat_map};
 ghost use Rattle.ca_dbr.specs.declared.data_type.Form.TheVariants as plain_form;
 ghost use Rattle.ca_dbr.specs.Types.{element_size};
-ghost use Rattle.ca_dbr.specs.Elements.{elements, string_bytes, bytes_2};
+ghost use Rattle.ca_dbr.specs.Elements.{base_of, elements, string_bytes, bytes_2};
 ghost use Rattle.ca_dbr.specs.Image.{meta_bytes};
-ghost use Rattle.ca_display.specs.declared.display_type.DisplayType.{DisplayType};
-ghost use Rattle.ca_display.specs.Types.{display_number, data_size, limit_count};
+ghost use Rattle.ca_display.specs.declared.image_type.ImageType.{ImageType};
+ghost use Rattle.ca_display.specs.declared.image_type.ImageType.TheVariants as any;
+ghost use Rattle.ca_display.specs.Types.{base_in, image_number, data_size, limit_count};
 ghost use Rattle.ca_display.specs.Data.{data_of};
 ghost use Rattle.ca_display.specs.Image.{limit_bytes, real_bytes, data_bytes, size_of_display};
-ghost use Rattle.ca_display.specs.Image.{WritesDisplay};
+ghost use Rattle.ca_display.specs.Image.{size_in, PutsOwn, WritesIn, WritesDisplay};
 ghost use Rattle.ca_text.specs.declared.refusal.Refusal.TheVariants.{BadType, OutOfMemory};
 
+use crate::conversion::convert_first;
 use crate::display::{Display, STATE_LIMIT};
 use crate::display_type::DisplayType;
+use crate::image_type::ImageType;
 use crate::limits::put_limits_in;
 use ca_dbr::{BaseType, Meta, Value, put_bytes, put_zeros, write_shown};
 use ca_text::Refusal;
@@ -43,17 +47,29 @@ fn size_for(data_type: DisplayType, count: u32) -> usize
     front + count as usize * data_type.base.element_size()
 }
 
-/// How many bytes an image of n elements takes. Refused as BadType if the type is none with
-/// display data.
+/// How many bytes an image of n elements takes, of a record with display data. Refused as BadType
+/// if the type does not exist.
 pub fn display_size(number: u16, count: u32) -> Result<usize, Refusal>
     ensures { MatchResult result
-        (λ size. (t : DisplayType) × (display_number t ≡ number)
-        × (size ≡ size_of_display t count))
-        (λ e. (e ≡ BadType) × ((number < 21) ⊎ (34 < number))) }
+        (λ size. (t : ImageType) × (image_number t ≡ number) × (size ≡ size_in t count))
+        (λ e. (e ≡ BadType) × (34 < number)) }
 {
-    match DisplayType::of(number) {
+    match ImageType::of(number) {
         None => Err(Refusal::BadType),
-        Some(data_type) => Ok(size_for(data_type, count)),
+        Some(image_type) => Ok(size_in(image_type, count)),
+    }
+}
+
+// How many bytes an image of n elements takes, in any type.
+fn size_in(image_type: ImageType, count: u32) -> usize
+    ensures { result ≡ size_in image_type count }
+{
+    match image_type {
+        ImageType::Data(data_type) => {
+            let front = data_type.meta_size() + data_type.padding_size();
+            front + count as usize * data_type.base.element_size()
+        }
+        ImageType::Display(display_type) => size_for(display_type, count),
     }
 }
 
@@ -159,12 +175,93 @@ fn put_front(data_type: DisplayType, meta: Meta, display: &Display, out: &mut Ve
     put_data(data_type, display, out);
 }
 
-/// Writes the image of n elements of a value with display data at the end of the bytes.
+// Writes the image of n elements of a value at the end of the bytes, in a type with display data
+// and of the value's own base. Refused as OutOfMemory, only if there is no room for it; the bytes
+// are then as before.
+fn write_with_display(
+    data_type: DisplayType,
+    count: u32,
+    value: &Value,
+    meta: &Meta,
+    display: &Display,
+    out: &mut Vec<u8>,
+) -> Result<(), Refusal>
+    requires own { base_of (elements value.now) ≡ data_type.base }
+    requires few { length display.now.states.items ≤ 16 }
+    ensures written { OnOk result (PutsOwn (any.Display data_type) count (elements value.now)
+        meta.now (data_of display.now) out.old.items out.new.items) }
+    ensures err { IfErr result (λ e. e ≡ OutOfMemory) }
+    ensures stays { OnErr result (out.new.items ≡ out.old.items) }
+    ensures room { OnErr result (vec_capacity out.old
+        < vec_len out.old + size_of_display data_type count) }
+{
+    out.reserve(size_for(data_type, count))?;
+    put_front(data_type, *meta, display, out);
+    match write_shown(data_type.base.number(), count, value, &Meta::ZERO, out) {
+        Ok(()) => Ok(()),
+        Err(_) => unreachable!(),
+    }
+}
+
+// The same in any type of the value's own base.
+fn write_own(
+    image_type: ImageType,
+    count: u32,
+    value: &Value,
+    meta: &Meta,
+    display: &Display,
+    out: &mut Vec<u8>,
+) -> Result<(), Refusal>
+    requires own { base_of (elements value.now) ≡ base_in image_type }
+    requires few { length display.now.states.items ≤ 16 }
+    ensures written { OnOk result (PutsOwn image_type count (elements value.now) meta.now
+        (data_of display.now) out.old.items out.new.items) }
+    ensures err { IfErr result (λ e. e ≡ OutOfMemory) }
+    ensures stays { OnErr result (out.new.items ≡ out.old.items) }
+    ensures room { OnErr result (vec_capacity out.old
+        < vec_len out.old + size_in image_type count) }
+{
+    match image_type {
+        ImageType::Data(data_type) => {
+            match write_shown(data_type.number(), count, value, meta, out) {
+                Ok(()) => Ok(()),
+                Err(_) => Err(Refusal::OutOfMemory),
+            }
+        }
+        ImageType::Display(display_type) => {
+            write_with_display(display_type, count, value, meta, display, out)
+        }
+    }
+}
+
+// Writes the image of n elements of a value at the end of the bytes, in a type of another base.
+fn write_converted(
+    image_type: ImageType,
+    count: u32,
+    value: &Value,
+    meta: &Meta,
+    display: &Display,
+    out: &mut Vec<u8>,
+) -> Result<(), Refusal>
+    requires { length display.now.states.items ≤ 16 }
+    ensures { WritesIn image_type count (elements value.now) meta.now (data_of display.now)
+        out.old.items result out.new.items }
+{
+    let alloc = *out.allocator();
+    match convert_first(alloc, value, count as usize, image_type.base(), display) {
+        Err(refusal) => Err(refusal),
+        Ok(shown) => write_own(image_type, count, &shown, meta, display, out),
+    }
+}
+
+/// Writes the image of what a read shows of a record with display data at the end of the bytes: n
+/// elements of its value, in a type.
 ///
-/// A count below the value's takes its first elements; after all of them elements of zero bytes
-/// follow. Refused as BadType if the type is none with display data or not of the value's own
-/// base, as BadCount if there are more than 16 states, then as OutOfMemory, only if there is no
-/// room for it; the bytes are then as before.
+/// A count below the value's takes its first elements, before they are converted; after all of them
+/// elements of zero bytes follow. Refused as BadType if the type does not exist, as BadCount if
+/// there are more than 16 states, then by the first element that does not convert; and as
+/// OutOfMemory, only if there is no room for it or the value is not of the type's base. The bytes
+/// are then as before.
 pub fn write_display(
     number: u16,
     count: u32,
@@ -176,24 +273,19 @@ pub fn write_display(
     ensures written { WritesDisplay number count (elements value.now) meta.now (data_of display.now)
         out.old.items result out.new.items }
     ensures room { IfErr result (λ e. e ≡ OutOfMemory
-        → (t : DisplayType) × (display_number t ≡ number)
-        × (vec_capacity out.old < vec_len out.old + size_of_display t count)) }
+        → (t : ImageType) × (image_number t ≡ number)
+        × ((vec_capacity out.old < vec_len out.old + size_in t count)
+        ⊎ (base_of (elements value.now) ≢ base_in t))) }
 {
-    let data_type = match DisplayType::of(number) {
+    let image_type = match ImageType::of(number) {
         None => return Err(Refusal::BadType),
-        Some(data_type) => data_type,
+        Some(image_type) => image_type,
     };
-    let own = value.base_type();
-    if own.number() != data_type.base.number() {
-        return Err(Refusal::BadType);
-    }
     if display.states.len() > STATE_LIMIT {
         return Err(Refusal::BadCount);
     }
-    out.reserve(size_for(data_type, count))?;
-    put_front(data_type, *meta, display, out);
-    match write_shown(own.number(), count, value, &Meta::ZERO, out) {
-        Ok(()) => Ok(()),
-        Err(_) => unreachable!(),
+    if value.base_type() == image_type.base() {
+        return write_own(image_type, count, value, meta, display, out);
     }
+    write_converted(image_type, count, value, meta, display, out)
 }

@@ -4,7 +4,9 @@
 //! an `mbbo` of three states. Where C leaves bytes as they were (padding, and a text after its zero
 //! byte), there are zero bytes in place of what came.
 use ca_dbr::{BaseType, Meta, Value};
-use ca_display::{Display, Limits, convert_display, display_size, read_display, write_display};
+use ca_display::{
+    Display, Limits, alarm_of, convert_display, display_size, read_display, write_display,
+};
 use ca_text::Refusal;
 use std::alloc::Global;
 use std::test::Fail;
@@ -275,6 +277,59 @@ fn images_of_rows(rt: HostRuntime) -> Result<(), Fail> {
     Ok(())
 }
 
+// One record, of a DOUBLE, as it is shown in each type: so its images were recorded.
+#[test]
+fn images_of_one_record(rt: HostRuntime) -> Result<(), Fail> {
+    let alloc = rt.alloc();
+    let display = gain(alloc)?;
+    let value = Value::Doubles(vec![in alloc; 0x4006_0000_0000_0000]?);
+    for (number, image) in [
+        (21, IMAGE_21.as_slice()),
+        (22, &IMAGE_22),
+        (23, &IMAGE_23),
+        (25, &IMAGE_25),
+        (26, &IMAGE_26),
+        (27, &IMAGE_27),
+        (28, &IMAGE_28),
+        (29, &IMAGE_29),
+        (30, &IMAGE_30),
+        (32, &IMAGE_32),
+        (33, &IMAGE_33),
+        (34, &IMAGE_34),
+    ] {
+        assert!(rt; has_image(alloc, number, &value, &Meta::ZERO, &display, image)?);
+    }
+    Ok(())
+}
+
+// The types without display data: plain, with status, and with a time stamp.
+#[test]
+fn images_without_display_data(rt: HostRuntime) -> Result<(), Fail> {
+    let alloc = rt.alloc();
+    let display = gain(alloc)?;
+    let value = Value::Doubles(vec![in alloc; 0x4006_0000_0000_0000]?);
+    let meta = Meta {
+        seconds: 258,
+        nanos: 3,
+        ..ALARM
+    };
+    let mut plain = [0; 40];
+    plain[..5].copy_from_slice(b"2.750");
+    assert!(rt; has_image(alloc, 0, &value, &meta, &display, &plain)?);
+    let double = [0x40, 0x06, 0, 0, 0, 0, 0, 0];
+    assert!(rt; has_image(alloc, 6, &value, &meta, &display, &double)?);
+    let status = [0, 7, 0, 1, 0, 0, 0, 2];
+    assert!(rt; has_image(alloc, 12, &value, &meta, &display, &status)?);
+    let time = [0, 7, 0, 1, 0, 0, 1, 2, 0, 0, 0, 3, 0, 0, 0, 2];
+    assert!(rt; has_image(alloc, 15, &value, &meta, &display, &time)?);
+    // Three elements are wanted, and two are there.
+    let longs = Value::Longs(vec![in alloc; 1, -2]?);
+    let mut bytes = Vec::new(alloc);
+    write_display(1, 3, &longs, &meta, &display, &mut bytes)?;
+    assert!(rt; bytes.ends_with(&[0, 1, 0xff, 0xfe, 0, 0]) && bytes.len() == 6);
+    Ok(())
+}
+
 /// The text in a STRING.
 fn text(bytes: &[u8]) -> [u8; 40] {
     let mut field = [0; 40];
@@ -479,17 +534,54 @@ fn floats_as_texts(rt: HostRuntime) -> Result<(), Fail> {
     Ok(())
 }
 
+// By HIHI 90.5, HIGH 80.25, LOW -10.5 and LOLO -15.75, as the fields of an `ao` are described.
+#[test]
+fn alarms(rt: HostRuntime) -> Result<(), Fail> {
+    let alloc = rt.alloc();
+    for (bits, alarm) in [
+        (0x4056_a000_0000_0000, (3, 2)),
+        (0x4056_9000_0000_0000, (4, 1)),
+        (0x4054_1000_0000_0000, (4, 1)),
+        (0x4054_0000_0000_0000, (0, 0)),
+        (0xc024_0000_0000_0000, (0, 0)),
+        (0xc025_0000_0000_0000, (6, 1)),
+        (0xc02f_0000_0000_0000, (6, 1)),
+        (0xc02f_8000_0000_0000, (5, 2)),
+        (0x7ff8_0000_0000_0000, (0, 0)),
+    ] {
+        let value = Value::Doubles(vec![in alloc; bits]?);
+        assert!(rt; alarm_of(LIMITS, &value) == alarm);
+    }
+    let value = Value::Longs(vec![in alloc; 91]?);
+    assert!(rt; alarm_of(LIMITS, &value) == (3, 2));
+    let value = Value::Chars(vec![in alloc; 81]?);
+    assert!(rt; alarm_of(LIMITS, &value) == (4, 1));
+    let value = Value::Floats(vec![in alloc; 0xc180_0000]?);
+    assert!(rt; alarm_of(LIMITS, &value) == (5, 2));
+    let value = Value::Ints(vec![in alloc; 91, 91]?);
+    assert!(rt; alarm_of(LIMITS, &value) == (0, 0));
+    let value = Value::Enums(vec![in alloc; 91]?);
+    assert!(rt; alarm_of(LIMITS, &value) == (0, 0));
+    Ok(())
+}
+
 #[test]
 fn refusals(rt: HostRuntime) -> Result<(), Fail> {
     let alloc = rt.alloc();
     let value = Value::Longs(vec![in alloc; 2]?);
     let mut display = gain(alloc)?;
     let mut bytes = vec![in alloc; 9]?;
-    for number in [20, 22, 24, 35] {
+    for number in [35, 65535] {
         let result = write_display(number, 1, &value, &Meta::ZERO, &display, &mut bytes);
         assert!(rt; result == Err(Refusal::BadType));
+        assert!(rt; display_size(number, 1) == Err(Refusal::BadType));
     }
+    // 300 is no CHAR; as the second of two elements it does not matter to a read of one.
+    let longs = Value::Longs(vec![in alloc; 2, 300]?);
+    let result = write_display(25, 2, &longs, &Meta::ZERO, &display, &mut bytes);
+    assert!(rt; result == Err(Refusal::OutOfRange));
     assert!(rt; bytes.ends_with(&[9]) && bytes.len() == 1);
+    assert!(rt; has_image(alloc, 25, &longs, &Meta::ZERO, &display, &IMAGE_25)?);
     assert!(rt; Display::new(alloc, b"12345678", 0, LIMITS) == Err(Refusal::NameLength));
     assert!(rt; display.add_state(b"a name that is too long, by") == Err(Refusal::NameLength));
     for _ in 0..16 {
