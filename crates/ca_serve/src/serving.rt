@@ -1,4 +1,4 @@
-//! `serve` from its sockets to its count of applied writes: polls are opened, five threads are
+//! `serve` from its sockets to its count of applied writes: polls are opened, four threads are
 //! started beside those of circuits, and all are joined at the end.
 ghost use Rattle.std.specs.Prelude.{◌≡◌, ◌-◌, ◌^◌, None};
 
@@ -9,7 +9,6 @@ use crate::locked::SharedServer;
 use crate::meter::Meter;
 use crate::parking::{Parking, Poller, SOCKETS};
 use crate::processing::{Device, Processor};
-use crate::ringing::Ringer;
 use crate::work::started;
 use ca_records::{Records, Rule};
 use ca_server::State;
@@ -142,7 +141,7 @@ fn serve_as<
             options,
         )?,
     )?;
-    let mut helpers = Vec::with_capacity(alloc, 5)?;
+    let mut helpers = Vec::with_capacity(alloc, 4)?;
     let helped = start_helpers(rt, alloc, &shared, desk, poll, &mut helpers);
     if helped.is_err() {
         shared.end(&rt);
@@ -267,8 +266,7 @@ fn open_parking<R: Net>(rt: &R) -> Result<(Poll, Parking), Refusal> {
     Ok((poll, parking))
 }
 
-// Starts the thread for datagrams, the polling thread, the ringing thread and two processing
-// threads.
+// Starts the thread for datagrams, the polling thread and two processing threads.
 fn start_helpers<
     L: Ledger + Send + Sync + 'static,
     D: Device + Send + Sync + 'static,
@@ -287,10 +285,9 @@ fn start_helpers<
     poll: Poll,
     helpers: &mut Vec<JoinHandle<()>>,
 ) -> Result<(), Refusal> {
-    helpers.reserve(5)?;
+    helpers.reserve(4)?;
     helpers.push_reserved(start_datagrams(rt, shared, desk)?);
     helpers.push_reserved(start_poller(rt, alloc, shared, poll)?);
-    helpers.push_reserved(start_ringer(rt, shared)?);
     helpers.push_reserved(start_processor(rt, shared)?);
     helpers.push_reserved(start_processor(rt, shared)?);
     Ok(())
@@ -356,21 +353,6 @@ fn start_poller<
         events,
     };
     started(rt, poller)
-}
-
-fn start_ringer<
-    L: Ledger + Send + Sync + 'static,
-    D: Device + Send + Sync + 'static,
-    R: Threads
-        + Wait
-        + Clock
-        + Net<Stream = net::TcpStream, Listener = net::TcpListener>
-        + Copy
-        + Send
-        + 'static,
->(rt: R, shared: &Arc<SharedServer<L, D>>) -> Result<JoinHandle<()>, Refusal> {
-    let shared = Arc::try_clone(shared)?;
-    started(rt, Ringer { shared })
 }
 
 fn join_helpers<R: Threads>(rt: &R, helpers: &mut Vec<JoinHandle<()>>) {
