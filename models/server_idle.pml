@@ -1,5 +1,5 @@
 /*
- * The server's circuits, each of which pumps for itself, the bells by which they wake one another, the ringing thread, the processing threads, and the end:
+ * The server's circuits, each of which pumps for itself, the bells by which they wake one another, the processing threads, and the end:
  * crates/ca_serve/src.
  *
  * Each block names the function that it follows, in the function's own order; threads take turns between statements. What is done under the mutex is one step with
@@ -16,8 +16,8 @@
  *
  * A message is a put. On a quick record it is applied at once, and is an update for each circuit that watches. On a slow one it makes the record busy, or waits for
  * it; a processing thread finishes it: that is a late reply to its circuit, and the next put that waits is applied. One message a turn stands for many. Whoever applied
- * or finished a put takes the bells of the idle circuits that it reached under the mutex (`rings`), and rings them one by one once it has let go; or with HANDS it hands
- * them over to the ringing thread (`handed`), as is done where there are many.
+ * or finished a put notes the bells of the idle circuits that it reached under the mutex (`is_due`). In each turn, and in each finish, a thread takes FEW of those along (`rings`),
+ * and rings them one by one once it has let go.
  *
  * A wait for a condition looks at the number of notifications under the mutex, lets go, and sleeps unless that changed (`unseen`).
  *
@@ -33,7 +33,7 @@
  *   CLOSES      the client of circuit 0 may close it
  *   LATE        the last circuit is accepted at any time
  *   LACKS       there may be no memory for an update, which ends its circuit
- *   HANDS       all bells are handed over to the ringing thread
+ *   FEW=1       bells that a thread takes along
  *   PARKS=1     how often a circuit is parked again
  *   PATIENCE    a wait for room may end by time, and the circuit is cut then
  *   ENDS        the server ends at some time
@@ -50,7 +50,7 @@
  *     9  a finish does not ring those that its next put reached (SLOW)
  *    10  a circuit's thread that is about to wait forgets that its bell was rung
  *    11  a circuit that its update ended is not rung (LACKS)
- *    12  the ringing thread is told of bells before it is handed them (HANDS)
+ *    12  only who noted a bell takes some along (C=3)
  *    13  a circuit that is parked waits before it takes a turn (PARKS)
  *    14  the polling thread takes the bells of those that it wakes (PARKS=0: a wait that ends by time hides it)
  *    15  a parked circuit whose socket is full does not ask to be told of room (PARKS, FULL)
@@ -76,6 +76,9 @@
 #ifndef LIMIT
 #define LIMIT 2
 #endif
+#ifndef FEW
+#define FEW 1
+#endif
 #ifndef P
 #define P 1
 #endif
@@ -87,17 +90,12 @@
 #else
 #define PROCESSORS 0
 #endif
-#ifdef HANDS
-#define RINGERS 1
-#else
-#define RINGERS 0
-#endif
 #ifdef PARKS
 #define POLLERS 1
 #else
 #define POLLERS 0
 #endif
-#define HELPERS (PROCESSORS + RINGERS + POLLERS)
+#define HELPERS (PROCESSORS + POLLERS)
 #define MOST_DUE 2      /* a newer update takes the place of the newest */
 
 mtype = { LATER, COUNT, OVER, BUSY, IDLE, CLOSED };
@@ -117,11 +115,10 @@ byte waits[C];
 bit given;              /* its name is in LockedServer.busy */
 bit ending;
 
-byte handed[C];         /* LockedServer.rings */
+bit is_due[C];          /* Bells.due */
 
-/* The conditions that a record became busy, and that there are bells for the ringing thread. */
+/* The condition that a record became busy. */
 bit unseen, sleeps;
-bit unseen_rung, sleeps_rung;
 
 /* Sockets and wakers. */
 byte rx[C];
@@ -169,13 +166,10 @@ inline ring(k, wake) {
 
 /* Condvar::notify_all. */
 inline notify() { d_step { unseen = 1; sleeps = 0 } }
-inline notify_rung() { d_step { unseen_rung = 1; sleeps_rung = 0 } }
 
 #if C == 2
-#define NO_BELLS (handed[0] == 0 && handed[1] == 0)
 #define ANY_TOLD (told[0] || told[1])
 #else
-#define NO_BELLS (handed[0] == 0 && handed[1] == 0 && handed[2] == 0)
 #define ANY_TOLD (told[0] || told[1] || told[2])
 #endif
 #define WATCHES(c) ((c) + WATCHERS >= C)
@@ -214,55 +208,41 @@ inline post(c) {
     k = 0
 }
 
-/* LockedServer::reach: the bells of those that the put reached are taken. */
+/* LockedServer::reach: the bells of those that the put reached are noted. */
 inline reach(c) {
     for (k : 0 .. LAST) {
         if
-        :: WATCHES(k) && k != c && has_bell[k] && IS_RUNG(k) -> is_idle[k] = 0; rings[k] = WAKE(k)
+        :: WATCHES(k) && k != c && has_bell[k] && IS_RUNG(k) -> is_idle[k] = 0; is_due[k] = 1; noted = 1
         :: else
         fi
     };
     k = 0
 }
 
-/* Rings::hand_over, in the same hold. */
-inline hand_over() {
-#if defined(HANDS) && PLANT != 12
+/* Bells::share_out, in the same hold. One that took a turn since it was noted is left out, and so is one that is closed. */
+inline share_out() {
     for (k : 0 .. C - 1) {
         if
-        :: rings[k] -> handed[k] = rings[k]; rings[k] = 0; is_handed = 1
+#if PLANT == 12
+        :: is_due[k] && taken < FEW && noted ->
+#else
+        :: is_due[k] && taken < FEW ->
+#endif
+            is_due[k] = 0;
+            if
+            :: has_bell[k] && !is_idle[k] -> rings[k] = WAKE(k); taken++
+            :: else
+            fi
         :: else
         fi
     };
-    k = 0
-#else
-    skip
-#endif
+    k = 0;
+    taken = 0;
+    noted = 0
 }
 
 /* Rings::ring_all. */
 inline ring_all() {
-#ifdef HANDS
-#if PLANT == 12
-    d_step { for (k : 0 .. C - 1) { is_handed = is_handed || rings[k] != 0 }; k = 0 };
-    if
-    :: is_handed ->
-        is_handed = 0;
-        notify_rung();
-        atomic {
-            lock == 0 -> lock = 1;
-            d_step { for (k : 0 .. C - 1) { handed[k] = (rings[k] -> rings[k] : handed[k]); rings[k] = 0 }; k = 0 }
-        };
-        let_go()
-    :: else
-    fi;
-#else
-    if
-    :: is_handed -> is_handed = 0; notify_rung()
-    :: else
-    fi;
-#endif
-#endif
     do
     :: k < C ->
         if
@@ -325,9 +305,9 @@ inline park() {
 /* A circuit's thread: CircuitThread::run. */
 proctype Circuit(byte c) {
     mtype moved = LATER, turn = IDLE;
-    bit is_given, is_handed, slow, all, again, has_no_room, came;
+    bit is_given, noted, slow, all, again, has_no_room, came;
     byte rings[C];
-    byte k, steps, parks;
+    byte k, taken, steps, parks;
 
     entered[c];
 #ifdef PARKS
@@ -338,7 +318,7 @@ proctype Circuit(byte c) {
 #if PLANT == 2
         if
         :: moved == COUNT || input[c] != 0 ->
-            atomic { lock == 0 -> lock = 1; d_step { reach(c) } };
+            atomic { lock == 0 -> lock = 1; d_step { reach(c); share_out() } };
             let_go();
             ring_all()
         :: else
@@ -424,7 +404,7 @@ proctype Circuit(byte c) {
                 all = 0
             };
             is_given = given;
-            d_step { hand_over() }
+            d_step { share_out() }
         };
         let_go();
         if
@@ -567,52 +547,6 @@ turned_again:
     d_step { own[c] = 0; joined[c] = 0; edge[c] = 0; bell[c] = 0; told[c] = 0; token[c] = 0 }
 }
 
-#ifdef HANDS
-/* The ringing thread: Ringer::run. */
-proctype Ringer() {
-    byte rings[C];
-    byte k;
-
-    do
-    ::  atomic { lock == 0 -> lock = 1 };
-        do
-        :: NO_BELLS && !ending ->
-            d_step { unseen_rung = 0; lock = 0 };
-            d_step {
-                if
-                :: !unseen_rung -> sleeps_rung = 1
-                :: else
-                fi
-            };
-end_asleep:
-            !sleeps_rung;
-            atomic { lock == 0 -> lock = 1 }
-        :: else -> break
-        od;
-        if
-        :: ending -> let_go(); break
-        :: else ->
-            d_step {
-                for (k : 0 .. C - 1) { rings[k] = handed[k]; handed[k] = 0 };
-                k = 0;
-                lock = 0
-            }
-        fi;
-        do
-        :: k < C ->
-            if
-            :: rings[k] -> d_step { ring(k, rings[k]); rings[k] = 0 }
-            :: else
-            fi;
-            k++
-        :: else -> break
-        od;
-        k = 0
-    od;
-    ended_threads++
-}
-#endif
-
 #ifdef PARKS
 /* The polling thread: Poller::run. */
 proctype Poller() {
@@ -662,9 +596,9 @@ end_polling:
 #ifdef SLOW
 /* A processing thread: Processor::run. */
 proctype Processor() {
-    bit work, next, is_handed;
+    bit work, next, noted;
     byte rings[C];
-    byte k;
+    byte k, taken;
 
     do
     ::  atomic { lock == 0 -> lock = 1 };
@@ -696,7 +630,7 @@ end_asleep:
 #if PLANT != 5
                 d_step {
                     if
-                    :: has_bell[busy_of] && is_idle[busy_of] -> is_idle[busy_of] = 0; rings[busy_of] = WAKE(busy_of)
+                    :: has_bell[busy_of] && is_idle[busy_of] -> is_idle[busy_of] = 0; is_due[busy_of] = 1; noted = 1
                     :: else
                     fi
                 };
@@ -729,7 +663,7 @@ end_asleep:
                     next = 0
                 :: else
                 fi;
-                d_step { hand_over() }
+                d_step { share_out() }
             };
             let_go();
             ring_all()
@@ -790,7 +724,6 @@ proctype Main() {
     };
     let_go();
     notify();
-    notify_rung();
     end_told = 1;
     do
     :: k < C -> gone[k]; k++
@@ -817,9 +750,6 @@ init {
         for (c : 0 .. C - 2) { open[c] = 1; entered[c] = 1; has_bell[c] = 1 };
 #else
         for (c : 0 .. C - 1) { open[c] = 1; entered[c] = 1; has_bell[c] = 1 };
-#endif
-#ifdef HANDS
-        run Ringer();
 #endif
 #ifdef PARKS
         run Poller();

@@ -8,7 +8,6 @@ use crate::circuit::{CircuitThread, Gathered};
 use crate::circuit_socket::CircuitSocket;
 use crate::locked::SharedServer;
 use crate::processing::Device;
-use crate::ringing::{Bell, Wake};
 use crate::tally::Tally;
 use crate::work::started_or_ended;
 use ca_arena::Handle;
@@ -280,15 +279,7 @@ fn entered<L: Ledger, D: Device, R: Wait>(
     let Ok(circuit) = locked.state.accept() else {
         return None;
     };
-    let bell = Bell {
-        circuit,
-        wake: Wake {
-            waker: None,
-            parker,
-        },
-        is_idle: false,
-    };
-    if locked.bells.insert(circuit.index, bell).is_err() {
+    if locked.bells.add(circuit, parker).is_err() {
         is_to_end.store(true, Ordering::SeqCst);
     }
     Some(circuit)

@@ -121,7 +121,7 @@ impl<L: Ledger, D: Device> ThreadWork<Gathered<L>> for CircuitThread<L, D> {
             match turn {
                 Turn::Closed(left) => {
                     tally.end(left.bytes());
-                    rings.ring_all(&shared.rung);
+                    rings.ring_all();
                     ring(&shared.accepting);
                     if !patience.is_over {
                         write_left(rt, &shared, &mut socket, left);
@@ -133,7 +133,7 @@ impl<L: Ledger, D: Device> ThreadWork<Gathered<L>> for CircuitThread<L, D> {
                     let before = socket.written;
                     let written = socket.write();
                     let took = socket.written != before;
-                    rings.ring_all(&shared.rung);
+                    rings.ring_all();
                     let written = patience.after(rt, written, took);
                     let is_busy = took || matches!(moved, SocketRead::Count(_));
                     moved = go_on(
@@ -187,10 +187,10 @@ fn turned<L: Ledger, D: Device, R: Wait + Clock>(
     let mut guard = shared.lock(rt);
     let locked = &mut *guard;
     take_in(locked, circuit, moved, socket.input.as_slice());
-    let turn = steps(rt, locked, &shared.slow, circuit, share, rings);
+    let turn = steps(rt, locked, &shared.slow, circuit, share);
     let turn = take_out(locked, circuit, turn, socket);
     let is_given = !locked.busy.is_empty();
-    rings.hand_over(&mut locked.rings);
+    locked.bells.share_out(rings);
     shared.note_writes(locked);
     drop(guard);
     if is_given {
@@ -286,7 +286,6 @@ fn steps<L: Ledger, R: Clock>(
     slow: &IndexSet<Vec<u8>>,
     circuit: Handle,
     share: &mut Share<L>,
-    rings: &mut Rings,
 ) -> Turn
     requires { 0 < share.old.parts }
     ensures { share.new.parts ≡ share.old.parts }
@@ -295,7 +294,7 @@ fn steps<L: Ledger, R: Clock>(
     // The channel of the last write.
     let mut reached = None;
     for _ in 0..STEPS {
-        match locked.step(slow, circuit, share, &mut reached, rings) {
+        match locked.step(slow, circuit, share, &mut reached) {
             CoreStep::Handled(_) => {}
             CoreStep::NeedBytes => return Turn::Idle,
             CoreStep::OutputFull => return Turn::Busy,
@@ -315,13 +314,13 @@ fn take_out<L: Ledger>(
     socket: &mut CircuitSocket,
 ) -> Turn {
     if let Turn::Closed(left) = turn {
-        locked.bells.swap_remove(&circuit.index);
+        locked.bells.remove(circuit);
         locked.closed = locked.closed.saturating_add(1);
         return Turn::Closed(left);
     }
     let is_all = socket.take_out(&mut locked.state, circuit) && !socket.is_at_most();
     let is_idle = matches!(turn, Turn::Idle) && is_all && locked.state.core().is_open(circuit);
-    locked.rest(circuit, is_idle);
+    locked.bells.rest(circuit, is_idle);
     match turn {
         Turn::Idle if !is_idle => Turn::Busy,
         turn => turn,

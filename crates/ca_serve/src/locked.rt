@@ -6,14 +6,14 @@ use crate::clock::{milliseconds, next_stamp, parts_of, stamp_after};
 use crate::meter::Meter;
 use crate::parking::Parking;
 use crate::processing::Device;
-use crate::ringing::{Bell, Rings, ring};
+use crate::ringing::{Bells, ring};
 use crate::serving::Options;
 use crate::tally::Tally;
 use ca_arena::Handle;
 use ca_server::{State, locked_finish, locked_step};
 use ca_server_core::{CoreStep, Effect, EndCause};
 use ca_wire::Sid;
-use indexmap::{IndexMap, IndexSet};
+use indexmap::IndexSet;
 use mio::Waker;
 use std::alloc::{AllocError, Global};
 use std::collections::VecDeque;
@@ -34,10 +34,7 @@ pub(crate) struct LockedServer<L: Ledger> {
     pub(crate) busy: VecDeque<usize>,
     /// By their places among the slow ones: whether a record waits for that, or is processed.
     pub(crate) in_hand: Vec<bool>,
-    /// The bells of the circuits that have a thread, by the index of their handle.
-    pub(crate) bells: IndexMap<u16, Bell>,
-    /// The bells that the ringing thread is to ring.
-    pub(crate) rings: Rings,
+    pub(crate) bells: Bells,
     /// The time stamp that was handed in last, in nanoseconds since 1990-01-01 00:00:00 UTC.
     pub(crate) stamped: u64,
     /// How many circuits were closed.
@@ -55,8 +52,6 @@ pub(crate) struct SharedServer<L: Ledger, D: Device> {
     pub(crate) locked: Mutex<LockedServer<L>>,
     /// A record became busy, or the server is to end.
     pub(crate) given: Condvar,
-    /// There are bells for the ringing thread, or the server is to end.
-    pub(crate) rung: Condvar,
     pub(crate) parking: Parking,
     /// Wakes the thread that accepts circuits.
     pub(crate) accepting: Waker,
@@ -96,15 +91,13 @@ impl<L: Ledger, D: Device> SharedServer<L, D> {
                 state,
                 busy,
                 in_hand,
-                bells: IndexMap::new(alloc),
-                rings: Rings::new(alloc),
+                bells: Bells::new(alloc),
                 stamped: 0,
                 closed: 0,
                 gone: Vec::new(alloc),
                 ending: false,
             }),
             given: Condvar::new(),
-            rung: Condvar::new(),
             parking,
             accepting,
             answering,
@@ -156,12 +149,9 @@ impl<L: Ledger, D: Device> SharedServer<L, D> {
         let mut guard = self.locked.lock(rt);
         let locked = &mut *guard;
         locked.ending = true;
-        for (_, bell) in &locked.bells {
-            bell.wake.ring();
-        }
+        locked.bells.ring_all();
         drop(guard);
         self.given.notify_all();
-        self.rung.notify_all();
         ring(&self.parking.waker);
         ring(&self.accepting);
         ring(&self.answering);
@@ -178,21 +168,22 @@ impl<L: Ledger> LockedServer<L> {
         circuit: Handle,
         share: &mut Share<L>,
         reached: &mut Option<u32>,
-        rings: &mut Rings,
     ) -> CoreStep
         requires { 0 < share.old.parts }
         ensures { share.new.parts ≡ share.old.parts }
     {
         let step = locked_step(&mut self.state, circuit, share);
         match &step {
-            CoreStep::Handled(Effect::Wrote(sid)) => self.reach_by(circuit, *sid, reached, rings),
+            CoreStep::Handled(Effect::Wrote(sid)) => self.reach_by(circuit, *sid, reached),
             CoreStep::Handled(Effect::Busied(sid)) => {
                 self.hand_on_of(slow, circuit, *sid);
-                self.reach_by(circuit, *sid, reached, rings);
+                self.reach_by(circuit, *sid, reached);
             }
             CoreStep::Closed(EndCause::OutOfMemory, _) => {
+                // It had no memory for the update of its own write, and does not tell of the record
+                // that it wrote.
                 self.hand_on_all(slow);
-                self.reach_all(rings);
+                self.bells.note_all();
             }
             _ => {}
         }
@@ -211,13 +202,7 @@ impl<L: Ledger> LockedServer<L> {
 
     // A write was applied on this channel: the next one is to be later, and the other circuits that
     // may have updates of it are to be rung. The circuit that wrote is in its turn.
-    fn reach_by(
-        &mut self,
-        circuit: Handle,
-        sid: u32,
-        reached: &mut Option<u32>,
-        rings: &mut Rings,
-    ) {
+    fn reach_by(&mut self, circuit: Handle, sid: u32, reached: &mut Option<u32>) {
         self.stamp_as(next_stamp(self.stamped));
         if *reached == Some(sid) {
             return;
@@ -225,15 +210,7 @@ impl<L: Ledger> LockedServer<L> {
         *reached = Some(sid);
         let LockedServer { state, bells, .. } = self;
         if let Some(name) = state.core().served_name(circuit, Sid::new(sid)) {
-            reach(state, bells, name, Some(circuit), rings);
-        }
-    }
-
-    // All idle circuits are to be rung: a circuit that had no memory for the update of its own
-    // write does not tell of the record that it wrote.
-    fn reach_all(&mut self, rings: &mut Rings) {
-        for (_, bell) in &mut self.bells {
-            rings.take(bell);
+            reach(state, bells, name, Some(circuit));
         }
     }
 
@@ -277,22 +254,16 @@ impl<L: Ledger> LockedServer<L> {
     /// Finishes the put that makes the record of this name busy. If a put that waited makes it busy
     /// again, it goes to the end of those that wait to be processed, so that no record keeps others
     /// waiting. The circuit of the put is to be rung, and those that the next put may have reached.
-    pub(crate) fn finish<R: Clock>(
-        &mut self,
-        rt: &R,
-        place: usize,
-        name: &[u8],
-        rings: &mut Rings,
-    ) {
+    pub(crate) fn finish<R: Clock>(&mut self, rt: &R, place: usize, name: &[u8]) {
         self.stamp(rt);
         if let Some(circuit) = self.state.core().busy_circuit(name) {
-            take(&mut self.bells, circuit, rings);
+            self.bells.note(circuit);
         }
         let applied = self.state.core().applied();
         // Nobody else finishes it, so that this is not refused.
         let _refused = locked_finish(&mut self.state, name);
         if self.state.core().applied() != applied {
-            reach(&self.state, &mut self.bells, name, None, rings);
+            reach(&self.state, &mut self.bells, name, None);
         }
         if let Some(is_in_hand) = self.in_hand.get_mut(place) {
             *is_in_hand = false;
@@ -301,40 +272,18 @@ impl<L: Ledger> LockedServer<L> {
             self.hand_on(place);
         }
     }
-
-    /// Whether a circuit's thread is idle from now on.
-    pub(crate) fn rest(&mut self, circuit: Handle, is_idle: bool) {
-        if let Some(bell) = self.bells.get_mut(&circuit.index) {
-            bell.is_idle = is_idle;
-        }
-    }
 }
 
 // The circuits that may have subscriptions on the record of this name are to be rung, but for this
 // one.
-fn reach<L: Ledger>(
-    state: &State<L>,
-    bells: &mut IndexMap<u16, Bell>,
-    name: &[u8],
-    but: Option<Handle>,
-    rings: &mut Rings,
-) {
+fn reach<L: Ledger>(state: &State<L>, bells: &mut Bells, name: &[u8], but: Option<Handle>) {
     let Some(watching) = state.core().watching(name) else {
         return;
     };
     for place in 0..watching.len() {
         match watching.at(place) {
-            Some(circuit) if Some(circuit) != but => take(bells, circuit, rings),
+            Some(circuit) if Some(circuit) != but => bells.note(circuit),
             _ => {}
-        }
-    }
-}
-
-// This circuit is to be rung, if it has a bell.
-fn take(bells: &mut IndexMap<u16, Bell>, circuit: Handle, rings: &mut Rings) {
-    if let Some(bell) = bells.get_mut(&circuit.index) {
-        if bell.circuit == circuit {
-            rings.take(bell);
         }
     }
 }

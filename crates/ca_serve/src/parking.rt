@@ -16,8 +16,8 @@ use std::alloc::Global;
 use std::net::{Net, TcpListener, TcpStream};
 use std::sync::ledger::Ledger;
 use std::sync::{Arc, Mutex, Wait};
+use std::thread;
 use std::time::{Clock, Duration};
-use std::{mem, thread};
 
 // Circuits that have a poll of their own, at most. More that are busy go on by the one that all
 // share.
@@ -116,11 +116,8 @@ fn hang<L: Ledger, D: Device, R: Wait>(
     circuit: Handle,
     waker: Option<Arc<Waker>>,
 ) {
-    let mut other = waker;
     let mut guard = shared.locked.lock(rt);
-    if let Some(bell) = guard.bells.get_mut(&circuit.index) {
-        mem::swap(&mut bell.wake.waker, &mut other);
-    }
+    let _other = guard.bells.hang(circuit, waker);
     drop(guard);
 }
 
@@ -150,7 +147,7 @@ impl<L: Ledger, D: Device> ThreadWork<()> for Poller<L, D> {
             if noted(rt, &shared, is_told, &events, &mut rings) {
                 break;
             }
-            rings.ring_all(&shared.rung);
+            rings.ring_all();
         }
     }
 }
@@ -165,17 +162,12 @@ fn noted<L: Ledger, D: Device, R: Wait>(
 ) -> bool {
     let guard = shared.locked.lock(rt);
     if !is_told {
-        for (_, bell) in &guard.bells {
-            rings.call(bell);
-        }
+        guard.bells.call_all(rings);
     }
     for event in events {
         let Token(token) = event.token();
-        let Ok(index) = u16::try_from(token) else {
-            continue;
-        };
-        if let Some(bell) = guard.bells.get(&index) {
-            rings.call(bell);
+        if let Ok(index) = u16::try_from(token) {
+            guard.bells.call(index, rings);
         }
     }
     guard.ending

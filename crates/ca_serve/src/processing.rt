@@ -85,11 +85,11 @@ fn finish<L: Ledger, D: Device, R: Wait + Clock>(
     let mut rings = Rings::new(shared.alloc);
     let mut guard = shared.locked.lock(rt);
     let locked = &mut *guard;
-    locked.finish(rt, place, name, &mut rings);
+    locked.finish(rt, place, name);
     shared.note_writes(locked);
-    rings.hand_over(&mut locked.rings);
+    locked.bells.share_out(&mut rings);
     drop(guard);
-    rings.ring_all(&shared.rung);
+    rings.ring_all();
 }
 
 // What was put to the record of this name, unless the server is to end.

@@ -1,32 +1,29 @@
-//! How the thread of a circuit is woken. Bells are noted under the lock and rung once it is
-//! released, by the thread that noted them or, if they are many, by the ringing thread.
-use crate::locked::SharedServer;
-use crate::processing::Device;
-use crate::work::ThreadWork;
+//! How the thread of a circuit is woken. Bells that are to ring are noted under the lock, and rung
+//! with the lock released: a thread takes a few along from each turn, and those that it wakes take
+//! more. So a write that reaches many is told of on all cores, and whoever wrote goes on.
 use ca_arena::Handle;
+use indexmap::IndexMap;
 use mio::Waker;
 use std::alloc::{AllocError, Global};
+use std::collections::VecDeque;
 use std::mem;
-use std::net::{Net, TcpListener, TcpStream};
-use std::sync::ledger::Ledger;
-use std::sync::{Arc, Condvar, Wait};
+use std::sync::Arc;
 use std::thread::Parker;
-use std::time::Clock;
 
-// A thread rings this many bells by itself, at most: each ring is a call of the system.
-const FEW: usize = 8;
+// A thread takes this many bells along, at most: each ring is a call of the system.
+const FEW: usize = 4;
 
 /// What wakes a thread.
 #[derive(Drop)]
 pub(crate) struct Wake {
-    /// Of the poll that its circuit has for itself, unless it is parked.
-    pub(crate) waker: Option<Arc<Waker>>,
-    pub(crate) parker: Arc<Parker>,
+    // Of the poll that its circuit has for itself, unless it is parked.
+    waker: Option<Arc<Waker>>,
+    parker: Arc<Parker>,
 }
 
 impl Wake {
-    /// Wakes the thread, at its poll or its parker.
-    pub(crate) fn ring(&self) {
+    // Wakes the thread, at its poll or its parker.
+    fn ring(&self) {
         match &self.waker {
             Some(waker) => ring(waker),
             None => self.parker.unpark(),
@@ -45,82 +42,200 @@ impl Wake {
     }
 }
 
-/// How the thread of a circuit is woken.
+// How the thread of a circuit is woken.
 #[derive(Drop)]
-pub(crate) struct Bell {
-    pub(crate) circuit: Handle,
-    pub(crate) wake: Wake,
-    /// The thread waits for bytes, nothing waits to be sent on its circuit, and nobody is about to
-    /// wake it.
-    pub(crate) is_idle: bool,
+struct Bell {
+    circuit: Handle,
+    wake: Wake,
+    // The thread waits for bytes, nothing waits to be sent on its circuit, and nobody is about to
+    // wake it.
+    is_idle: bool,
+    // It is among those that are to ring.
+    is_due: bool,
 }
 
-/// Bells that are rung once the lock is let go.
+/// The bells of the circuits that have a thread. They lie under the lock.
+#[derive(Drop)]
+pub(crate) struct Bells {
+    // By the index of the circuit's handle.
+    all: IndexMap<u16, Bell>,
+    // Those that are to ring, and that no thread has taken along yet, in the order in which they
+    // were noted.
+    due: VecDeque<u16>,
+}
+
+impl Bells {
+    pub(crate) fn new(alloc: Global) -> Bells {
+        Bells {
+            all: IndexMap::new(alloc),
+            due: VecDeque::new(alloc),
+        }
+    }
+
+    /// A circuit has a bell from now on, whose thread is parked, but not idle.
+    pub(crate) fn add(&mut self, circuit: Handle, parker: Arc<Parker>) -> Result<(), AllocError> {
+        let bell = Bell {
+            circuit,
+            wake: Wake {
+                waker: None,
+                parker,
+            },
+            is_idle: false,
+            is_due: false,
+        };
+        match self.all.insert(circuit.index, bell) {
+            Ok(_) => Ok(()),
+            Err(_) => Err(AllocError),
+        }
+    }
+
+    /// The circuit of this bell was closed.
+    pub(crate) fn remove(&mut self, circuit: Handle) {
+        self.all.swap_remove(&circuit.index);
+    }
+
+    /// From now on a ring of the circuit's bell is for this waker, or for the parker. The other one
+    /// comes back.
+    pub(crate) fn hang(
+        &mut self,
+        circuit: Handle,
+        waker: Option<Arc<Waker>>,
+    ) -> Option<Arc<Waker>> {
+        let mut other = waker;
+        if let Some(bell) = self.all.get_mut(&circuit.index) {
+            mem::swap(&mut bell.wake.waker, &mut other);
+        }
+        other
+    }
+
+    /// Whether a circuit's thread is idle from now on.
+    pub(crate) fn rest(&mut self, circuit: Handle, is_idle: bool) {
+        if let Some(bell) = self.all.get_mut(&circuit.index) {
+            bell.is_idle = is_idle;
+        }
+    }
+
+    /// The bell of this circuit is to ring, if it has one and its thread is idle.
+    pub(crate) fn note(&mut self, circuit: Handle) {
+        let Bells { all, due } = self;
+        if let Some(bell) = all.get_mut(&circuit.index) {
+            if bell.circuit == circuit {
+                bell.note(due);
+            }
+        }
+    }
+
+    /// The bells of all idle threads are to ring.
+    pub(crate) fn note_all(&mut self) {
+        let Bells { all, due } = self;
+        for (_, bell) in all {
+            bell.note(due);
+        }
+    }
+
+    /// A thread takes along some of those that are to ring. It does so in each hold under which it
+    /// may have noted any, and in each turn: so each that is taken along and rung has more of them
+    /// taken along, until none is left.
+    pub(crate) fn share_out(&mut self, rings: &mut Rings) {
+        let Bells { all, due } = self;
+        for _ in 0..due.len() {
+            let Some(index) = due.pop_front() else {
+                return;
+            };
+            if let Some(bell) = all.get_mut(&index) {
+                bell.go(rings);
+            }
+            if rings.wakes.len() >= FEW {
+                return;
+            }
+        }
+    }
+
+    /// The thread of this index is to be woken if it is parked, whatever it waits for there.
+    pub(crate) fn call(&self, index: u16, rings: &mut Rings) {
+        if let Some(bell) = self.all.get(&index) {
+            bell.call(rings);
+        }
+    }
+
+    /// All threads that are parked are to be woken.
+    pub(crate) fn call_all(&self, rings: &mut Rings) {
+        for (_, bell) in &self.all {
+            bell.call(rings);
+        }
+    }
+
+    /// Rings all, at once.
+    pub(crate) fn ring_all(&self) {
+        for (_, bell) in &self.all {
+            bell.wake.ring();
+        }
+    }
+}
+
+impl Bell {
+    // It is to ring, if its thread is idle. Without memory for that it rings at once.
+    fn note(&mut self, due: &mut VecDeque<u16>) {
+        if !self.is_idle {
+            return;
+        }
+        self.is_idle = false;
+        if self.is_due {
+            return;
+        }
+        match due.push_back(self.circuit.index) {
+            Ok(()) => self.is_due = true,
+            Err(_) => self.wake.ring(),
+        }
+    }
+
+    // It is taken along, if it is to ring and its thread took no turn since.
+    fn go(&mut self, rings: &mut Rings) {
+        if !self.is_due {
+            return;
+        }
+        self.is_due = false;
+        if self.is_idle {
+            return;
+        }
+        match self.wake.again() {
+            Ok(wake) => rings.add(wake),
+            Err(_) => self.wake.ring(),
+        }
+    }
+
+    fn call(&self, rings: &mut Rings) {
+        match Arc::try_clone(&self.wake.parker) {
+            Ok(parker) => rings.add(Wake {
+                waker: None,
+                parker,
+            }),
+            Err(_) => self.wake.parker.unpark(),
+        }
+    }
+}
+
+/// Bells that a thread rings once it has let the lock go.
 #[derive(Drop)]
 pub(crate) struct Rings {
     wakes: Vec<Wake>,
-    // The ringing thread has got some.
-    are_handed_over: bool,
 }
 
 impl Rings {
     pub(crate) fn new(alloc: Global) -> Rings {
         Rings {
             wakes: Vec::new(alloc),
-            are_handed_over: false,
         }
     }
 
-    pub(crate) fn is_empty(&self) -> bool {
-        self.wakes.is_empty()
-    }
-
-    /// The bell is to ring, if its thread is idle. Without memory for that it rings at once.
-    pub(crate) fn take(&mut self, bell: &mut Bell) {
-        if !bell.is_idle {
-            return;
-        }
-        bell.is_idle = false;
-        match bell.wake.again() {
-            Ok(wake) => self.add(wake),
-            Err(_) => bell.wake.ring(),
-        }
-    }
-
-    /// The thread is to be woken if it is parked, whatever it waits for there.
-    pub(crate) fn call(&mut self, bell: &Bell) {
-        match Arc::try_clone(&bell.wake.parker) {
-            Ok(parker) => self.add(Wake {
-                waker: None,
-                parker,
-            }),
-            Err(_) => bell.wake.parker.unpark(),
-        }
-    }
-
+    // Without memory for that it rings at once.
     fn add(&mut self, wake: Wake) {
         if let Err(refused) = self.wakes.push(wake) {
             refused.value.ring();
         }
     }
 
-    /// If these are more than a few, all go to those of the ringing thread.
-    pub(crate) fn hand_over(&mut self, others: &mut Rings) {
-        if self.wakes.len() <= FEW {
-            return;
-        }
-        while let Some(wake) = self.wakes.pop() {
-            others.add(wake);
-        }
-        self.are_handed_over = true;
-    }
-
-    /// Rings them, or has the ringing thread ring those that it has got.
-    pub(crate) fn ring_all(&mut self, rung: &Condvar) {
-        if self.are_handed_over {
-            self.are_handed_over = false;
-            rung.notify_all();
-        }
+    pub(crate) fn ring_all(&mut self) {
         while let Some(wake) = self.wakes.pop() {
             wake.ring();
         }
@@ -130,32 +245,4 @@ impl Rings {
 /// Wakes a thread. A wake that fails was of a thread that is at its end.
 pub(crate) fn ring(waker: &Waker) {
     let _gone = waker.wake();
-}
-
-/// The thread that rings bells where there are many, so that whoever wrote goes on.
-#[derive(Drop)]
-pub(crate) struct Ringer<L: Ledger, D: Device> {
-    pub(crate) shared: Arc<SharedServer<L, D>>,
-}
-
-impl<L: Ledger, D: Device> ThreadWork<()> for Ringer<L, D> {
-    // Rings what was handed over, with no lock held. At the end all bells are rung by whoever ends
-    // the server.
-    fn run<R: Wait + Clock + Net<Stream = TcpStream, Listener = TcpListener>>(self, rt: &R) {
-        let Ringer { shared } = self;
-        let mut rings = Rings::new(shared.alloc);
-        for _ in rt.forever() {
-            let mut guard = shared.rung.wait_while(
-                rt,
-                shared.locked.lock(rt),
-                |l| l.rings.is_empty() && !l.ending,
-            );
-            if guard.ending {
-                break;
-            }
-            mem::swap(&mut guard.rings, &mut rings);
-            drop(guard);
-            rings.ring_all(&shared.rung);
-        }
-    }
 }

@@ -1,4 +1,4 @@
-//! `serve` from its sockets to its count of applied writes: polls are opened, five threads are
+//! `serve` from its sockets to its count of applied writes: polls are opened, four threads are
 //! started beside those of circuits, and all are joined at the end.
 ghost use Rattle.std.specs.Prelude.{◌≡◌, ◌-◌, ◌^◌, None};
 
@@ -9,7 +9,6 @@ use crate::locked::SharedServer;
 use crate::meter::Meter;
 use crate::parking::{Parking, Poller, SOCKETS};
 use crate::processing::{Device, Processor};
-use crate::ringing::Ringer;
 use crate::work::started;
 use ca_records::{Records, Rule};
 use ca_server::State;
@@ -267,8 +266,7 @@ fn open_parking<R: Net>(rt: &R) -> Result<(Poll, Parking), Refusal> {
     Ok((poll, parking))
 }
 
-// Starts the thread for datagrams, the polling thread, the ringing thread and two processing
-// threads.
+// Starts the thread for datagrams, the polling thread and two processing threads.
 fn start_helpers<
     L: Ledger + Send + Sync + 'static,
     D: Device + Send + Sync + 'static,
@@ -287,7 +285,7 @@ fn start_helpers<
     poll: Poll,
     helpers: &mut Vec<JoinHandle<()>>,
 ) -> Result<(), Refusal> {
-    helpers.reserve(5)?;
+    helpers.reserve(4)?;
     let datagrams = DatagramThread {
         shared: Arc::try_clone(shared)?,
         desk,
@@ -300,10 +298,6 @@ fn start_helpers<
         events: Events::with_capacity(alloc, SOCKETS)?,
     };
     helpers.push_reserved(started(rt, poller)?);
-    let ringer = Ringer {
-        shared: Arc::try_clone(shared)?,
-    };
-    helpers.push_reserved(started(rt, ringer)?);
     let processor = Processor {
         shared: Arc::try_clone(shared)?,
     };

@@ -1,4 +1,0 @@
-use Rattle.ca_serve.proofs.ringing.Rings.hand_over.Given as goal
-
-abbrev pub decreases-loop-wake : goal.decreases-loop-wake
-decreases-loop-wake l = goal.left-loop-wake l
