@@ -8,7 +8,7 @@ ghost use Rattle.ca_c.specs.ClientTold.{became, c_channel, c_notice, outcome_not
 ghost use Rattle.ca_c.specs.ClientTold.{why_number};
 
 use crate::answers::number;
-use ca_client_core::{Address, ChannelState, EndCause, Notice};
+use ca_client_core::{Address, ChannelState, Notice, Why};
 use ca_dbr::{Outcome, Value};
 
 /// An IPv4 address, its first number in the highest byte, and a port.
@@ -97,16 +97,16 @@ fn standing(state: u32) -> CvzChannel
     }
 }
 
-pub(crate) fn why_number(why: EndCause) -> u32
+pub(crate) fn why_number(why: Why) -> u32
     ensures { result ≡ why_number (why_is why) }
 {
     match why {
-        EndCause::OutOfMemory => 1,
-        EndCause::Misaligned => 2,
-        EndCause::TooLarge => 3,
-        EndCause::Cut => 4,
-        EndCause::Silence => 5,
-        EndCause::Asked => 6,
+        Why::OutOfMemory => 1,
+        Why::Misaligned => 2,
+        Why::TooLarge => 3,
+        Why::Cut => 4,
+        Why::Silence => 5,
+        Why::Asked => 6,
     }
 }
 

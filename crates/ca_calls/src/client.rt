@@ -3,7 +3,7 @@
 use crate::answer::AnswerText;
 use crate::rounds;
 use crate::words::Words;
-use ca_client_core::{ChannelState, ClientCore, Closing, EndCause, Left, Stepped, Ticked};
+use ca_client_core::{ChannelState, ClientCore, Closing, Left, Stepped, Ticked, Why};
 use ca_text::Refusal;
 use std::alloc::Global;
 
@@ -328,13 +328,13 @@ fn closed(closing: Closing, answer: &mut AnswerText) -> Result<(), Refusal> {
     answer.bytes(left.bytes())
 }
 
-fn word_of(why: EndCause) -> &'static str {
+fn word_of(why: Why) -> &'static str {
     match why {
-        EndCause::OutOfMemory => "out of memory",
-        EndCause::Misaligned => "misaligned",
-        EndCause::TooLarge => "too large",
-        EndCause::Silence => "silence",
-        EndCause::Asked => "asked",
-        EndCause::Cut => "cut",
+        Why::OutOfMemory => "out of memory",
+        Why::Misaligned => "misaligned",
+        Why::TooLarge => "too large",
+        Why::Silence => "silence",
+        Why::Asked => "asked",
+        Why::Cut => "cut",
     }
 }

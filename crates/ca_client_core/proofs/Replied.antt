@@ -16,7 +16,7 @@ use Rattle.ca_model.specs.Ends as why
 use Rattle.ca_model.specs.Hears as hears
 use Rattle.ca_model.specs.Hears.{Completes, Effect, doing}
 use Rattle.ca_client_tables.specs.declared.first.First.TheVariants as first
-use Rattle.ca_client_tables.specs.declared.end_cause.EndCause.{EndCause}
+use Rattle.ca_client_tables.specs.declared.why.Why.{Why}
 use Rattle.ca_client_tables.specs.Closings.{why_is}
 use Rattle.ca_client_tables.specs.First.{FirstAt}
 use Rattle.ca_client_core.specs.Dispatch.{HearsFirst, HearsFirstReply, IsReply}
@@ -65,7 +65,7 @@ first-out x c head u y new k h heard ends left =
     (λ none. absurd (subst (λ (o : Option Connection). FirstAt o (first.Message head)) none h))
     (λ d e found has. steps-out x c d found e has head u y new k h heard ends left)
 
-pub first-bad : (x : Client) (c : Handle) (cause : EndCause) (new : Client) (k : answer.Closing) → FirstOn x c (first.Bad cause) → k ≡ closing (why_is cause) c x → new ≡ ended c x → (sent : List answer.Sending) × ClientSteps x c (answer.Closed k) sent new
+pub first-bad : (x : Client) (c : Handle) (cause : Why) (new : Client) (k : answer.Closing) → FirstOn x c (first.Bad cause) → k ≡ closing (why_is cause) c x → new ≡ ended c x → (sent : List answer.Sending) × ClientSteps x c (answer.Closed k) sent new
 first-bad x c cause new k h ends left =
     with-end x c
     (λ none. absurd (subst (λ (o : Option Connection). FirstAt o (first.Bad cause)) none h))

@@ -1,6 +1,6 @@
 //! What the end of a circuit leaves to its caller.
 use crate::notices::Notices;
-use ca_client_tables::EndCause;
+use ca_client_tables::Why;
 use ca_wire::Pipe;
 use std::marker::Model;
 
@@ -8,7 +8,7 @@ use std::marker::Model;
 #[derive(Debug, Drop)]
 pub struct Closing {
     /// Why.
-    pub why: EndCause,
+    pub why: Why,
     /// Its open requests complete with Disconnected, in order of issue, and then its live channels
     /// are lost, in order of index.
     pub notices: Notices,

@@ -9,7 +9,7 @@ use crate::client::ClientCore;
 use crate::closing::Closing;
 use crate::notices::Notices;
 use ca_arena::Handle;
-use ca_client_tables::{EndCause, end_channels, let_go, list_live, take_live};
+use ca_client_tables::{Why, end_channels, let_go, list_live, take_live};
 use ca_wire::Pipe;
 
 impl ClientCore {
@@ -18,7 +18,7 @@ impl ClientCore {
         ensures { (sent : List Sending)
             × ClientCuts self.old circuit result sent self.new }
     {
-        self.end(circuit, EndCause::Cut)
+        self.end(circuit, Why::Cut)
     }
 
     /// Ends the client's end of a circuit, as its caller asks. It does not allocate.
@@ -26,12 +26,12 @@ impl ClientCore {
         ensures { (sent : List Sending)
             × ClientCloses self.old circuit result sent self.new }
     {
-        self.end(circuit, EndCause::Asked)
+        self.end(circuit, Why::Asked)
     }
 
     // The end of this circuit has ended for this cause: its notices, and the bytes that waited.
     // It does not allocate.
-    pub(crate) fn end(&mut self, circuit: Handle, why: EndCause) -> Closing
+    pub(crate) fn end(&mut self, circuit: Handle, why: Why) -> Closing
         ensures told { result ≡ closing (why_is why) circuit self.old }
         ensures ended { self.new ≡ ended circuit self.old }
     {

@@ -47,7 +47,7 @@ mod unsubscribing;
 mod wanted;
 mod writing;
 
-pub use ca_client_tables::{Address, AddressedDatagram, EndCause, WantedCircuit};
+pub use ca_client_tables::{Address, AddressedDatagram, WantedCircuit, Why};
 pub use channel_state::ChannelState;
 pub use client::ClientCore;
 pub use closing::Closing;

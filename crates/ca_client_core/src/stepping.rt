@@ -10,7 +10,7 @@ use crate::client::ClientCore;
 use crate::closing::Closing;
 use crate::notices::Notices;
 use ca_arena::Handle;
-use ca_client_tables::{EndCause, First};
+use ca_client_tables::{First, Why};
 use ca_dbr::Outcome;
 use ca_text::Command;
 use ca_wire::{Header, Pipe};
@@ -57,7 +57,7 @@ impl ClientCore {
             First::NeedBytes => Stepped::NeedBytes,
             First::Message(head) => match self.hear(circuit, &head) {
                 Ok(told) => Stepped::Notices(told),
-                Err(_) => Stepped::Closed(self.end(circuit, EndCause::OutOfMemory)),
+                Err(_) => Stepped::Closed(self.end(circuit, Why::OutOfMemory)),
             },
             First::Bad(why) => Stepped::Closed(self.end(circuit, why)),
         }
@@ -92,7 +92,7 @@ impl ClientCore {
         let priority = found.priority;
         match self.begin(circuit, priority) {
             Ok(()) => None,
-            Err(_) => Some(self.end(circuit, EndCause::OutOfMemory)),
+            Err(_) => Some(self.end(circuit, Why::OutOfMemory)),
         }
     }
 }
@@ -123,7 +123,7 @@ impl Closing {
         ensures { result ≡ gone }
     {
         Closing {
-            why: EndCause::Cut,
+            why: Why::Cut,
             notices: Notices::none(alloc),
             left: Pipe::new(alloc),
         }

@@ -17,7 +17,7 @@ use crate::for_histories::Sending;
 use crate::marks::CircuitMark;
 use crate::notices::Notices;
 use ca_arena::Handle;
-use ca_client_tables::{AddressedDatagram, EndCause, packed, to_servers};
+use ca_client_tables::{AddressedDatagram, Why, packed, to_servers};
 use ca_search::Search;
 use ca_text::Refusal;
 use ca_wire::Pipe;
@@ -160,7 +160,7 @@ impl ClientCore {
         if !self.is_silent(circuit) {
             return;
         }
-        let Closing { notices, left, .. } = self.end(circuit, EndCause::Silence);
+        let Closing { notices, left, .. } = self.end(circuit, Why::Silence);
         closings.push_reserved(Left {
             circuit,
             notices,

@@ -1,9 +1,9 @@
 -- Vocabulary: why an end ended, as the vocabulary has it.
-use Rattle.ca_client_tables.specs.declared.end_cause.EndCause.{EndCause}
-use Rattle.ca_client_tables.specs.declared.end_cause.EndCause.TheVariants as cause
+use Rattle.ca_client_tables.specs.declared.why.Why.{Why}
+use Rattle.ca_client_tables.specs.declared.why.Why.TheVariants as cause
 use Rattle.ca_model.specs.Ends as ends
 
-abbrev pub why_is : EndCause → ends.Why
+abbrev pub why_is : Why → ends.Why
 why_is cause.OutOfMemory = ends.OutOfMemory
 why_is cause.Misaligned = ends.Misaligned
 why_is cause.TooLarge = ends.TooLarge

@@ -8,7 +8,7 @@ ghost use Rattle.ca_client_tables.specs.Closings.{why_is};
 ghost use Rattle.ca_model.specs.Ends.{why_of};
 
 use crate::circuit::{ClientCircuit, Connection};
-use crate::end_cause::EndCause;
+use crate::why::Why;
 use ca_text::Refusal;
 use ca_wire::{Head, One, read_one};
 
@@ -22,7 +22,7 @@ pub enum First {
     /// A complete message with this header.
     Message(Head),
     /// A header that is refused: the end is to end for this.
-    Bad(EndCause),
+    Bad(Why),
 }
 
 impl ClientCircuit {
@@ -88,11 +88,11 @@ fn know_bytes(bytes: &[u8])
 {}
 
 // The end of a circuit on which a header is refused for this.
-fn bad_header(refusal: Refusal) -> EndCause
+fn bad_header(refusal: Refusal) -> Why
     ensures { why_is result ≡ why_of refusal }
 {
     match refusal {
-        Refusal::Misaligned => EndCause::Misaligned,
-        _ => EndCause::TooLarge,
+        Refusal::Misaligned => Why::Misaligned,
+        _ => Why::TooLarge,
     }
 }

@@ -2,7 +2,7 @@
 
 /// Why a client's end of a circuit ended.
 #[derive(Clone, Copy, Debug, PartialEq, Eq)]
-pub enum EndCause {
+pub enum Why {
     /// There was no memory.
     OutOfMemory,
     /// A header whose payload size is no multiple of 8.
