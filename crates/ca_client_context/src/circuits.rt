@@ -4,7 +4,7 @@ ghost use Rattle.std.specs.Prelude.{◌<◌};
 ghost use Rattle.std.specs.Vec.{vec_capacity, vec_len};
 
 use crate::addresses::to_system;
-use crate::circuit_socket::CircuitSocket;
+use crate::circuit_stream::CircuitStream;
 use ca_arena::Handle;
 use ca_client::{Answer, ClientState, CoreCall, Socket, step_all, step_under_lock, turn_over};
 use ca_client_core::{Notice, Notices, WantedCircuit};
@@ -29,7 +29,7 @@ const CIRCUITS: Token = Token(2);
 #[derive(Drop)]
 pub(crate) struct ConnectedCircuit {
     pub(crate) circuit: Handle,
-    socket: CircuitSocket,
+    socket: CircuitStream,
 }
 
 // When each circuit was last tried, at the index of its handle: that of a name server is wanted
@@ -116,7 +116,7 @@ fn reach<R: Net>(rt: &R, registry: &Registry, wanted: WantedCircuit) -> Option<C
     };
     Some(ConnectedCircuit {
         circuit: wanted.circuit,
-        socket: CircuitSocket::new(stream),
+        socket: CircuitStream::new(stream),
     })
 }
 

@@ -33,7 +33,7 @@
 #![tactic(auto)]
 
 mod addresses;
-mod circuit_socket;
+mod circuit_stream;
 mod circuits;
 mod context;
 mod deadline;

@@ -8,7 +8,7 @@ use std::io::{Read, Write};
 
 // The system's stream, of whose bytes nothing is known. Its faults are counted.
 #[derive(Drop)]
-pub(crate) struct CircuitSocket {
+pub(crate) struct CircuitStream {
     stream: TcpStream,
     failed: u64,
     // Something was read in this turn.
@@ -24,12 +24,12 @@ pub(crate) struct CircuitSocket {
     pub(crate) full: bool,
 }
 
-impl CircuitSocket {
+impl CircuitStream {
     // A socket over this stream, which had no fault yet.
-    pub(crate) fn new(stream: TcpStream) -> CircuitSocket
-        ensures { ⟦<CircuitSocket as Socket>⟧.fault_count result ≡ 0 }
+    pub(crate) fn new(stream: TcpStream) -> CircuitStream
+        ensures { ⟦<CircuitStream as Socket>⟧.fault_count result ≡ 0 }
     {
-        CircuitSocket {
+        CircuitStream {
             stream,
             failed: 0,
             came: false,
@@ -40,7 +40,7 @@ impl CircuitSocket {
     }
 }
 
-impl Socket for CircuitSocket {
+impl Socket for CircuitStream {
     ghost use Rattle.std.specs.Prelude.{⊤};
 
     ghost gives = { λ _ _ _. ⊤ };
