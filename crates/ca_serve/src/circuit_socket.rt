@@ -23,6 +23,10 @@ const ROOM: usize = 65_536;
 // no lack of memory holds a circuit up.
 const PARKED_ROOM: usize = 512;
 
+// Bytes of an image that are handed to the system at once, at most: while it copies them it runs no
+// other thread there.
+const PIECE: usize = 65_536;
+
 // A circuit to which nothing comes for this many seconds is parked.
 const IDLE: u64 = 1;
 
@@ -238,7 +242,14 @@ impl CircuitSocket {
             let parts = rest_of(&self.output, self.written);
             match self.stream.write_vectored(&parts.map(IoSlice::new)) {
                 Ok(0) => return Written::Failed,
-                Ok(count) => self.written = self.written.saturating_add(count),
+                Ok(count) => {
+                    self.written = self.written.saturating_add(count);
+                    if !self.is_written() {
+                        // Others go first: so no read waits until many have written all of a large
+                        // value.
+                        thread::yield_now();
+                    }
+                }
                 Err(error) => match error.kind() {
                     io::ErrorKind::WouldBlock => return Written::Some,
                     io::ErrorKind::Interrupted => {}
@@ -326,13 +337,18 @@ fn rest_of(output: &CircuitOutput, written: usize) -> [&[u8]; 3] {
         let parts = [
             after(before, &mut left),
             after(header, &mut left),
-            after(image, &mut left),
+            first_of(after(image, &mut left)),
         ];
         if parts.iter().any(|part| !part.is_empty()) {
             return parts;
         }
     }
     [after(output.last(), &mut left), &[], &[]]
+}
+
+// As many of these bytes as are handed to the system at once.
+fn first_of(bytes: &[u8]) -> &[u8] {
+    &bytes[..bytes.len().min(PIECE)]
 }
 
 // These bytes without those of the first n that they have; n is less by these.
