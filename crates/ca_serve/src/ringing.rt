@@ -11,7 +11,7 @@ use std::sync::Arc;
 use std::thread::Parker;
 
 // A thread takes this many bells along, at most: each ring is a call of the system.
-const FEW: usize = 16;
+const FEW: usize = 4;
 
 /// What wakes a thread.
 #[derive(Drop)]
