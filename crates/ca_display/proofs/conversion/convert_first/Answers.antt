@@ -1,4 +1,4 @@
-use Rattle.std.proofs.Common.{◌≡◌, arith}
+use Rattle.std.proofs.Common.{arith}
 use Rattle.ca_dbr.specs.Elements.{elements}
 use Rattle.ca_dbr.specs.Shown.{first_elements}
 use Rattle.ca_display.specs.Data.{data_of}

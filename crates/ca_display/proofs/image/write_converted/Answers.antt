@@ -1,5 +1,4 @@
-use Rattle.std.proofs.Common.{◌≡◌, subst, ◌∙◌, refl, Result, Ok}
-use Rattle.ca_text.specs.declared.refusal.Refusal.{Refusal}
+use Rattle.std.proofs.Common.{◌≡◌, subst, ◌∙◌, refl, Ok}
 use Rattle.ca_dbr.specs.declared.data_type.BaseType.{BaseType}
 use Rattle.ca_dbr.specs.Elements.{elements}
 use Rattle.ca_dbr.specs.Shown.{first_elements}
@@ -14,8 +13,8 @@ pub returns-in-Err : goal.returns-in-Err
 returns-in-Err c =
     (refl, first-unshown (data_of c.args.display.now) (elements c.args.value.now) c.args.count (base_in c.args.image_type) c.base.result c.in-Err.refusal c.base.ensures c.in-Err.ensures.err)
 
-pub write_own-requires-own : goal.write_own-requires-own
-write_own-requires-own c =
+pub write_own-requires-clause-own : goal.write_own-requires-clause-own
+write_own-requires-clause-own c =
     (display_converted-is (data_of c.args.display.now) (first_elements c.args.count (elements c.args.value.now)) c.base.result (elements c.in-Ok.shown) c.in-Ok.ensures.ok).0 ∙ c.base.ensures
 
 pub returns-in-Ok : goal.returns-in-Ok

@@ -1,4 +1,4 @@
-use Rattle.std.proofs.Common.{◌≡◌, ◌∙◌, refl, sym, arith, inl, inr}
+use Rattle.std.proofs.Common.{◌≡◌, ◌∙◌, refl, sym, arith, rules, inl, inr}
 use Rattle.ca_dbr.specs.Elements.{base_of, elements}
 use Rattle.ca_display.specs.Data.{data_of}
 use Rattle.ca_display.specs.Types.{base_in}
@@ -6,16 +6,17 @@ use Rattle.ca_display.proofs.Images.{own_written}
 use Rattle.ca_display.proofs.Shown.{shows-own}
 use Rattle.ca_display.proofs.image.write_display.Goals as goal
 
-pub returns-then-len-clause-written : goal.returns-then-len-clause-written
-returns-then-len-clause-written c =
-    inr (c.in-Some.image_type, c.in-Some.ensures, (refl, inl (omega (arith, c.if-len.true), refl)))
+pub returns-then-len-gt-STATE_LIMIT-clause-written : goal.returns-then-len-gt-STATE_LIMIT-clause-written
+returns-then-len-gt-STATE_LIMIT-clause-written c =
+    inr (c.in-Some.image_type, c.in-Some.ensures, (refl, inl (omega (arith, c.if-len-gt-STATE_LIMIT.true), refl)))
 
-pub returns-then-base_type-base-clause-written : goal.returns-then-base_type-base-clause-written
-returns-then-base_type-base-clause-written c =
+pub returns-then-eq-clause-written : goal.returns-then-eq-clause-written
+returns-then-eq-clause-written c =
     let t = c.in-Some.image_type in
     let d = data_of c.args.display.now in
     let e = elements c.args.value.now in
-    let own : base_of e ≡ base_in t = sym c.base_type.ensures ∙ c.if-base_type-base.true ∙ c.base.ensures in
+    let same : c.base_type.result ≡ c.base.result = search rules in
+    let own : base_of e ≡ base_in t = sym c.base_type.ensures ∙ same ∙ c.base.ensures in
     let w = c.write_own in
     inr (t, c.in-Some.ensures, own_written t c.args.count e e c.args.meta.now d c.args.out.now.items w.new.out.items w.result (omega arith) (shows-own d e c.args.count (base_in t) own) w.ensures.written w.ensures.err w.ensures.stays)
 
