@@ -1,6 +1,6 @@
 //! The write that the next message on a circuit may be, known before the step that handles it: its
 //! record, its value in that record's type, and whether it makes the record busy.
-ghost use Rattle.std.specs.Prelude.{IfOk, option_map};
+ghost use Rattle.std.specs.Prelude.{◌≡◌, IfOk, option_map};
 ghost use Rattle.ca_dbr.specs.Elements.{elements};
 ghost use Rattle.ca_world_servers.specs.Coming.{Foresees, GivesElements, GivesValue, busies_by};
 
