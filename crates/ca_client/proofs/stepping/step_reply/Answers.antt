@@ -52,7 +52,7 @@ returns-in-NeedBytes c =
     subst (λ (v : StateView). HasSteppedUnderLock v (ask.Step c.args.circuit) answer.NeedBytes (record { core = c.read_reply.new.self; seat = s.seat; tickets = s.tickets.items })) c.state.view_is
     ([], (refl, c.in-NeedBytes.ensures), refl, refl, refl)
 
-pub invariant_of-state-2 : goal.invariant_of-state-2
-invariant_of-state-2 c =
+pub invariant_of-state-in-Other : goal.invariant_of-state-in-Other
+invariant_of-state-in-Other c =
     let s = c.state.inside in
     subst (λ (x : Client). IsState x s.seat (arc_value s.board) s.tickets.items) (sym c.in-Other.ensures) c.state.invariant
