@@ -1,4 +1,5 @@
 """kit: the kit's command rt, or a tool of this folder, as a module; and commands that count what passed and failed."""
+import functools
 import importlib.machinery
 import importlib.util
 import os
@@ -23,7 +24,10 @@ def load(path):
 
 def load_rt():
     """rt itself: by its own functions crates are proved, and by its own rules an edit is refused."""
-    return load(os.path.realpath(shutil.which("rt") or sys.exit(f"{os.path.basename(sys.argv[0])}: there is no rt on the PATH")))
+    rt = load(os.path.realpath(shutil.which("rt") or sys.exit(f"{os.path.basename(sys.argv[0])}: there is no rt on the PATH")))
+    # It asks for the crates below one so often that to gather them anew took 20 s of processor time before the first check of all.
+    rt.rtlib.Crate.below = functools.cache(rt.rtlib.Crate.below)
+    return rt
 
 
 def added(counts):
