@@ -17,7 +17,7 @@
  * A message is a put. On a quick record it is applied at once, and is an update for each circuit that watches. On a slow one it makes the record busy, or waits for
  * it; a processing thread finishes it: that is a late reply to its circuit, and the next put that waits is applied. One message a turn stands for many. Whoever applied
  * or finished a put notes the bells of the idle circuits that it reached under the mutex (`is_due`). In each turn, and in each finish, a thread takes FEW of those along (`rings`),
- * and rings them one by one once it has let go.
+ * and rings them one by one once it has let go: FEW is the number of one that noted none, and those that did may take more.
  *
  * A wait for a condition looks at the number of notifications under the mutex, lets go, and sleeps unless that changed (`unseen`).
  *
@@ -60,6 +60,7 @@
  *    19  a parked circuit has no limit of patience (PARKS, FULL, DEAF, PATIENCE)
  *    20  a circuit that is parked while its socket is full waits before it takes a turn (PARKS, FULL)
  *    21  a circuit is idle once its output was taken out, although updates may be left (LIMIT=1)
+ *    22  one that was idle handles no message that came
  */
 #ifndef C
 #define C 2
@@ -305,7 +306,7 @@ inline park() {
 /* A circuit's thread: CircuitThread::run. */
 proctype Circuit(byte c) {
     mtype moved = LATER, turn = IDLE;
-    bit is_given, noted, slow, all, again, has_no_room, came;
+    bit is_given, noted, slow, all, again, has_no_room, came, was_idle;
     byte rings[C];
     byte k, taken, steps, parks;
 
@@ -333,9 +334,15 @@ proctype Circuit(byte c) {
             :: else
             fi;
             came = moved == COUNT;
+#if PLANT != 22
+            was_idle = was_idle && moved == LATER;
+#endif
             moved = LATER;
             steps = 0;
             /* steps */
+            if
+            :: was_idle -> turn = IDLE
+            :: else ->
             if
             :: !open[c] -> turn = CLOSED
             :: open[c] && output[c] >= LIMIT -> turn = BUSY
@@ -371,7 +378,9 @@ proctype Circuit(byte c) {
 #endif
                 fi;
                 slow = 0
+            fi
             fi;
+            was_idle = 0;
             /* take_out, with State::pump_over */
             d_step {
                 if
@@ -426,6 +435,11 @@ proctype Circuit(byte c) {
         :: turn == CLOSED -> ring_all(); line[c] = 0; break       /* write_left, which ends by itself */
         :: else
         fi;
+        /* It has much to write, or little. */
+        if
+        :: true
+        :: ring_all()
+        fi;
         /* CircuitSocket::write; a circuit whose socket took some is busy, too */
         has_no_room = 0;
         if
@@ -438,6 +452,7 @@ proctype Circuit(byte c) {
         :: line[c] == 0
         fi;
         ring_all();
+        was_idle = turn == IDLE;
         /* go_on */
 #ifdef PARKS
         if

@@ -107,6 +107,7 @@ impl<L: Ledger, D: Device> ThreadWork<Gathered<L>> for CircuitThread<L, D> {
         };
         let mut rings = Rings::new(shared.alloc);
         let mut patience = Patience::new(shared.patience);
+        let mut was_idle = false;
         tally.begin();
         for _ in rt.forever() {
             let turn = turned(
@@ -114,6 +115,7 @@ impl<L: Ledger, D: Device> ThreadWork<Gathered<L>> for CircuitThread<L, D> {
                 &shared,
                 circuit,
                 moved,
+                was_idle,
                 &mut socket,
                 &mut share,
                 &mut rings,
@@ -130,12 +132,18 @@ impl<L: Ledger, D: Device> ThreadWork<Gathered<L>> for CircuitThread<L, D> {
                 }
                 turn => {
                     tally.count_all(socket.taken());
+                    // After much is written: then only a few threads at a time write much, and a
+                    // read on another circuit waits for these, not for all.
+                    if !socket.has_much() {
+                        rings.ring_all();
+                    }
                     let before = socket.written;
                     let written = socket.write();
                     let took = socket.written != before;
                     rings.ring_all();
                     let written = patience.after(rt, written, took);
                     let is_busy = took || matches!(moved, SocketRead::Count(_));
+                    was_idle = matches!(turn, Turn::Idle);
                     moved = go_on(
                         rt,
                         &shared,
@@ -171,12 +179,14 @@ fn note_gone<L: Ledger, D: Device, R: Wait>(rt: &R, shared: &SharedServer<L, D>,
 }
 
 // A turn under the lock: takes in what was read, handles messages, and takes bytes out that are to
-// be sent.
+// be sent. A circuit that was idle has no message if nothing came to it: its thread was woken for
+// what it is to send.
 fn turned<L: Ledger, D: Device, R: Wait + Clock>(
     rt: &R,
     shared: &SharedServer<L, D>,
     circuit: Handle,
     moved: SocketRead,
+    was_idle: bool,
     socket: &mut CircuitSocket,
     share: &mut Share<L>,
     rings: &mut Rings,
@@ -187,7 +197,10 @@ fn turned<L: Ledger, D: Device, R: Wait + Clock>(
     let mut guard = shared.lock(rt);
     let locked = &mut *guard;
     take_in(locked, circuit, moved, socket.input.as_slice());
-    let turn = steps(rt, locked, &shared.slow, circuit, share);
+    let turn = match moved {
+        SocketRead::Later if was_idle => Turn::Idle,
+        _ => steps(rt, locked, &shared.slow, circuit, share),
+    };
     let turn = take_out(locked, circuit, turn, socket);
     let is_given = !locked.busy.is_empty();
     locked.bells.share_out(rings);

@@ -267,6 +267,11 @@ impl CircuitSocket {
         }
     }
 
+    /// Whether more was taken for output than is handed to the system at once.
+    pub(crate) fn has_much(&self) -> bool {
+        self.output.len() > PIECE
+    }
+
     /// Whether all that was taken for output was written, so that more may be taken.
     pub(crate) fn is_written(&self) -> bool {
         self.written >= self.output.len()

@@ -1,6 +1,7 @@
 //! How the thread of a circuit is woken. Bells that are to ring are noted under the lock, and rung
-//! with the lock released: a thread takes a few along from each turn, and those that it wakes take
-//! more. So a write that reaches many is told of on all cores, and whoever wrote goes on.
+//! with the lock released: whoever noted them takes a few along, and each thread that is woken
+//! takes one. So a write that reaches many is told of on all cores, whoever wrote goes on, and only
+//! a few threads at a time want the lock.
 use ca_arena::Handle;
 use indexmap::IndexMap;
 use mio::Waker;
@@ -10,8 +11,12 @@ use std::mem;
 use std::sync::Arc;
 use std::thread::Parker;
 
-// A thread takes this many bells along, at most: each ring is a call of the system.
-const FEW: usize = 4;
+// Bells that a thread takes along from a hold in which it noted some, and from another. Did each
+// take several, all whom a write reaches would be awake at once, and wait for the lock: 1,000
+// updates take a seventh longer then.
+const FIRST: usize = 4;
+
+const NEXT: usize = 1;
 
 /// What wakes a thread.
 #[derive(Drop)]
@@ -62,6 +67,8 @@ pub(crate) struct Bells {
     // Those that are to ring, and that no thread has taken along yet, in the order in which they
     // were noted.
     due: VecDeque<u16>,
+    // Some were noted since any were taken along.
+    is_more: bool,
 }
 
 impl Bells {
@@ -69,6 +76,7 @@ impl Bells {
         Bells {
             all: IndexMap::new(alloc),
             due: VecDeque::new(alloc),
+            is_more: false,
         }
     }
 
@@ -117,27 +125,31 @@ impl Bells {
 
     /// The bell of this circuit is to ring, if it has one and its thread is idle.
     pub(crate) fn note(&mut self, circuit: Handle) {
-        let Bells { all, due } = self;
+        let Bells { all, due, is_more } = self;
         if let Some(bell) = all.get_mut(&circuit.index) {
             if bell.circuit == circuit {
                 bell.note(due);
+                *is_more = true;
             }
         }
     }
 
     /// The bells of all idle threads are to ring.
     pub(crate) fn note_all(&mut self) {
-        let Bells { all, due } = self;
+        let Bells { all, due, is_more } = self;
         for (_, bell) in all {
             bell.note(due);
         }
+        *is_more = true;
     }
 
     /// A thread takes along some of those that are to ring. It does so in each hold under which it
     /// may have noted any, and in each turn: so each that is taken along and rung has more of them
     /// taken along, until none is left.
     pub(crate) fn share_out(&mut self, rings: &mut Rings) {
-        let Bells { all, due } = self;
+        let Bells { all, due, is_more } = self;
+        let most = if *is_more { FIRST } else { NEXT };
+        *is_more = false;
         for _ in 0..due.len() {
             let Some(index) = due.pop_front() else {
                 return;
@@ -145,7 +157,7 @@ impl Bells {
             if let Some(bell) = all.get_mut(&index) {
                 bell.go(rings);
             }
-            if rings.wakes.len() >= FEW {
+            if rings.wakes.len() >= most {
                 return;
             }
         }
