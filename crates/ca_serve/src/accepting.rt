@@ -1,7 +1,7 @@
 //! The thread that accepts connections, which is the one that called `serve`. Each connection gets
 //! a thread, with a share in the count of applied writes, which comes back as the thread is joined.
 //! Begin at `accept_all`.
-ghost use Rattle.std.specs.Prelude.{◌≡◌, ◌+◌, ◌-◌, ◌^◌};
+ghost use Rattle.std.specs.Prelude.{◌≡◌, ◌<◌, ◌+◌, ◌-◌, ◌^◌};
 ghost use Rattle.indexmap.specs.IndexMap.{index_map_len};
 
 use crate::circuit::{CircuitThread, Gathered};
@@ -207,7 +207,7 @@ fn accept_one<
         is_to_end,
         ends,
     } = accepted;
-    let share = all.split_off(1, 0);
+    let share = one_part(all);
     let work = CircuitThread::new(held, socket, circuit, number, tally, ends, share);
     match started_or_ended(rt, work, &is_to_end) {
         Ok(handle) => keep(&rt, running, number, handle, all),
@@ -217,6 +217,15 @@ fn accept_one<
             all.merge(share);
         }
     }
+}
+
+// What a thread counts by. Nothing is counted in it yet.
+fn one_part<L: Ledger>(all: &mut Share<L>) -> Share<L>
+    requires { 1 < all.old.parts }
+    ensures one { result.parts ≡ 1 }
+    ensures left { all.new.parts + 1 ≡ all.old.parts }
+{
+    all.split_off(1, 0)
 }
 
 // A circuit for a connection.
