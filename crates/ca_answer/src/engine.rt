@@ -35,6 +35,11 @@ impl Model for StreamEngine {
 
     ghost Value = { EngineState };
 
+    ghost use Rattle.std.specs.Coded.{codes};
+    ghost use Rattle.ca_dbr.specs.Codes.{elements_code};
+
+    ghost coded = { Prim.hlevel (codes, elements_code) };
+
     ghost view = { λ x. record { core = x.core; circuit = x.circuit; waiting = x.waiting } };
 }
 

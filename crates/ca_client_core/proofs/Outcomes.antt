@@ -13,7 +13,7 @@ use Rattle.ca_dbr.specs.declared.value.Outcome.{Outcome}
 use Rattle.ca_dbr.specs.declared.value.Outcome.TheVariants as outcome
 use Rattle.ca_dbr.specs.declared.value.Value.{Value}
 use Rattle.ca_dbr.specs.declared.value.Value.TheVariants as value
-use Rattle.ca_dbr.specs.Elements.{Elements, bytes_2, bytes_4, chars, count_of, doubles, elements, enums, floats, ints, longs, strings}
+use Rattle.ca_dbr.specs.Elements.{Elements, IsValue, bytes_2, bytes_4, chars, count_of, displayed, doubles, elements, enums, floats, ints, longs, strings}
 use Rattle.ca_dbr.specs.Image.{meta_bytes}
 use Rattle.ca_dbr.specs.Reading.{IsLong, IsMeta, Reads, ReadsElements, carried, least_size}
 use Rattle.ca_dbr.specs.Types.{meta_size, padding_size, type_at, type_number}
@@ -121,14 +121,15 @@ meta-of form.Time bytes long are =
 abbrev vec_of : {X Y Z : Type 0} → Vec Y Z → (xs : List X) → length xs < 2 ^ 32 → Vec X Z
 vec_of w xs small = record { ptr = w.ptr; len = length xs; cap = length xs; alloc = w.alloc; items = xs; ok = (refl, omega arith); small = omega (arith, small) }
 
-value-of : {Y : Type 0} (w : Vec Y Global) (e : Elements) → count_of e < 2 ^ 32 → (v : Value) × (elements v ≡ e)
-value-of w (strings xs) small = (value.Strings (vec_of w xs small), refl)
-value-of w (ints xs) small = (value.Ints (vec_of w xs small), refl)
-value-of w (floats xs) small = (value.Floats (vec_of w xs small), refl)
-value-of w (enums xs) small = (value.Enums (vec_of w xs small), refl)
-value-of w (chars xs) small = (value.Chars (vec_of w xs small), refl)
-value-of w (longs xs) small = (value.Longs (vec_of w xs small), refl)
-value-of w (doubles xs) small = (value.Doubles (vec_of w xs small), refl)
+value-of : {Y : Type 0} (w : Vec Y Global) (e : Elements) → count_of e < 2 ^ 32 → IsValue e → (v : Value) × (elements v ≡ e)
+value-of w (strings xs) small valued = (value.Strings (vec_of w xs small), refl)
+value-of w (ints xs) small valued = (value.Ints (vec_of w xs small), refl)
+value-of w (floats xs) small valued = (value.Floats (vec_of w xs small), refl)
+value-of w (enums xs) small valued = (value.Enums (vec_of w xs small), refl)
+value-of w (chars xs) small valued = (value.Chars (vec_of w xs small), refl)
+value-of w (longs xs) small valued = (value.Longs (vec_of w xs small), refl)
+value-of w (doubles xs) small valued = (value.Doubles (vec_of w xs small), refl)
+value-of w (displayed d e) small valued = absurd valued
 
 -- ---- an image
 
@@ -141,7 +142,7 @@ value-in w t count bytes few long are =
     let m = meta-of t.form bytes (omega (arith, long)) are in
     let r = reading t.base count body (omega (arith, long, left)) (are-drop k bytes are) in
     let counted : count_of r.0 ≡ count = r.1.counted in
-    let v = value-of w r.0 (omega (arith, few, counted)) in
+    let v = value-of w r.0 (omega (arith, few, counted)) r.1.valued in
     let reads : ReadsElements t.base count body (elements v.0) = subst (ReadsElements t.base count body) (sym v.1) r.1 in
     (v.0, m.m, reads_parts t count bytes body (elements v.0) m.m m.front (omega (arith, long)) refl reads m.fits m.only)
 

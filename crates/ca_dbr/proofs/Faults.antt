@@ -6,9 +6,10 @@ use Rattle.ca_text.specs.declared.refusal.Refusal.{Refusal}
 use Rattle.ca_text.specs.declared.refusal.Refusal.TheVariants as refusal
 use Rattle.ca_dbr.specs.declared.data_type.BaseType.{BaseType}
 use Rattle.ca_dbr.specs.declared.data_type.BaseType.TheVariants as base
-use Rattle.ca_dbr.specs.Elements.{Elements, strings, ints, floats, enums, chars, longs, doubles, base_of, count_of}
+use Rattle.ca_dbr.specs.Display.{DisplayData}
+use Rattle.ca_dbr.specs.Elements.{Elements, strings, ints, floats, enums, chars, longs, doubles, displayed, base_of, count_of}
 use Rattle.ca_dbr.specs.Number.{text_of, number_in, number_text}
-use Rattle.ca_dbr.specs.Conversion.{in_signed, in_unsigned, numbered, first_and, gathered, then_elements, in_base, converted, has_numbers, HasConversion, IsFault}
+use Rattle.ca_dbr.specs.Conversion.{in_signed, in_unsigned, numbered, first_and, gathered, then_elements, in_base, with_data, converted, has_numbers, HasConversion, IsFault}
 use Rattle.ca_dbr.specs.Shown.{first_elements, with_zeros, zeros_behind, shown}
 
 abbrev failed : {A : Type 0} → Refusal → Result A Refusal
@@ -79,6 +80,11 @@ converted-none (floats xs) base.Float n = absurd (n (inl refl))
 converted-none (floats xs) b n = refl
 converted-none (doubles xs) base.Double n = absurd (n (inl refl))
 converted-none (doubles xs) b n = refl
+converted-none (displayed d e) b n = ap (λ (r : Result Elements Refusal). with_data d r) (converted-none e b n)
+
+with_data-fault : (d : DisplayData) (a : Result Elements Refusal) (r : Refusal) → with_data d a ≡ Err r → a ≡ Err r
+with_data-fault d (Ok e) r h = absurd (no_ok (displayed d e) r h)
+with_data-fault d (Err s) r h = ap (λ (x : Refusal). failed {A = Elements} x) (same_err {A = Elements} s r h)
 
 apart : (a b : BaseType) → HasConversion a b → (has_numbers a ≡ false) → a ≡ b
 apart a b (inl e) f = e
@@ -99,6 +105,7 @@ converted-fault (floats xs) base.Float c r h = absurd (no_ok (floats xs) r h)
 converted-fault (floats xs) b c r h = let same : base.Float ≡ b = apart base.Float b c refl in cc
 converted-fault (doubles xs) base.Double c r h = absurd (no_ok (doubles xs) r h)
 converted-fault (doubles xs) b c r h = let same : base.Double ≡ b = apart base.Double b c refl in cc
+converted-fault (displayed d e) b c r h = converted-fault e b c r (with_data-fault d (converted e b) r h)
 
 base_of-first : (n : ℕ) (e : Elements) → base_of (first_elements n e) ≡ base_of e
 base_of-first n (strings xs) = refl
@@ -108,6 +115,7 @@ base_of-first n (enums xs) = refl
 base_of-first n (chars xs) = refl
 base_of-first n (longs xs) = refl
 base_of-first n (doubles xs) = refl
+base_of-first n (displayed d e) = base_of-first n e
 
 zeros-fault : (n : ℕ) (a : Result Elements Refusal) (r : Refusal) → zeros_behind n a ≡ Err r → a ≡ Err r
 zeros-fault n (Ok e) r h = absurd (no_ok (with_zeros n e) r h)

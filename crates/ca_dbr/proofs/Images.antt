@@ -6,7 +6,7 @@ use Rattle.ca_dbr.specs.declared.data_type.Form.{Form}
 use Rattle.ca_dbr.specs.declared.data_type.Form.TheVariants as form
 use Rattle.ca_dbr.specs.declared.value.Meta.{Meta}
 use Rattle.ca_dbr.specs.Types.{element_size, meta_size}
-use Rattle.ca_dbr.specs.Elements.{Elements, strings, ints, floats, enums, chars, longs, doubles, base_of, count_of, bytes_of, IsValue, string_bytes, byte_1, bytes_2, bytes_4, bytes_8, signed_bytes_2, signed_bytes_4}
+use Rattle.ca_dbr.specs.Elements.{Elements, strings, ints, floats, enums, chars, longs, doubles, displayed, base_of, count_of, bytes_of, IsValue, string_bytes, byte_1, bytes_2, bytes_4, bytes_8, signed_bytes_2, signed_bytes_4}
 use Rattle.ca_dbr.specs.Image.{meta_bytes}
 
 pub All-head : {X : Type 0} (P : X → Type 0) (x : X) (xs : List X) → All P (x ∷ xs) → P x
@@ -59,6 +59,7 @@ length-bytes_of (enums xs) v = length-pieces bytes_2 2 xs (λ k d h. length-byte
 length-bytes_of (chars xs) v = length-pieces byte_1 1 xs (λ k d h. length-byte_1 (get_or xs k d))
 length-bytes_of (longs xs) v = length-pieces signed_bytes_4 4 xs (λ k d h. length-signed_bytes_4 (get_or xs k d))
 length-bytes_of (doubles xs) v = length-pieces bytes_8 8 xs (λ k d h. length-bytes_8 (get_or xs k d))
+length-bytes_of (displayed d e) v = absurd v
 
 pub length-meta_bytes : (f : Form) (m : Meta) → length (meta_bytes f m) ≡ meta_size f
 length-meta_bytes form.Plain m = refl

@@ -9,3 +9,4 @@ pub mod Shows
 pub mod Texts
 pub mod Valued
 pub mod LongBytes
+pub mod Helds

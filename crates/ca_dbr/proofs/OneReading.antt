@@ -14,7 +14,7 @@ use Rattle.ca_dbr.specs.declared.data_type.Form.TheVariants as form
 use Rattle.ca_dbr.specs.declared.data_type.DataType.{DataType}
 use Rattle.ca_dbr.specs.declared.value.Meta.{Meta}
 use Rattle.ca_dbr.specs.Types.{element_size, padding_size, size_of_image, type_number, base_number, form_number}
-use Rattle.ca_dbr.specs.Elements.{Elements, strings, ints as int_elements, floats, enums, chars, longs, doubles, base_of, count_of, bytes_of, IsValue, string_bytes, byte_1, bytes_2, bytes_4, bytes_8, signed_bytes_2, signed_bytes_4}
+use Rattle.ca_dbr.specs.Elements.{Elements, strings, ints as int_elements, floats, enums, chars, longs, doubles, displayed, base_of, count_of, bytes_of, IsValue, string_bytes, byte_1, bytes_2, bytes_4, bytes_8, signed_bytes_2, signed_bytes_4}
 use Rattle.ca_dbr.specs.Image.{meta_bytes, image}
 use Rattle.ca_dbr.specs.Reading.{carried, IsMeta, filled, ReadsElements, Reads}
 use Rattle.ca_dbr.proofs.Images.{All-head, All-tail, length-bytes_of, length-meta_bytes, length-byte_1, length-bytes_2, length-bytes_4, length-bytes_8, length-signed_bytes_2, length-signed_bytes_4}
@@ -83,6 +83,8 @@ length-text x p = p
 
 -- elements of one type, as many, are told by their bytes
 pub bytes_of-one : (e f : Elements) → base_of e ≡ base_of f → count_of e ≡ count_of f → IsValue e → IsValue f → bytes_of e ≡ bytes_of f → e ≡ f
+bytes_of-one (displayed d e) f b n p q h = absurd p
+bytes_of-one e (displayed d f) b n p q h = absurd q
 bytes_of-one (strings xs) (strings ys) b n p q h = ap strings (pieces-one string_bytes (λ x. length x ≡ 40) 40 length-text texts-one xs ys p q n h)
 bytes_of-one (int_elements xs) (int_elements ys) b n p q h = ap int_elements (pieces-one signed_bytes_2 (λ z. FitsSigned w16 z) 2 (λ z f. length-signed_bytes_2 z) (one_from_again signed_bytes_2 (λ t. cast_signed w16 (from_be_bytes w16 t)) (λ z. FitsSigned w16 z) signed_again_2) xs ys p q n h)
 bytes_of-one (floats xs) (floats ys) b n p q h = ap floats (pieces-one bytes_4 (λ k. k < 2 ^ 32) 4 (λ k f. length-bytes_4 k) (one_from_again bytes_4 (λ t. from_be_bytes w32 t) (λ k. k < 2 ^ 32) again_4) xs ys p q n h)

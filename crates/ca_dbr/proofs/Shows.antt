@@ -13,10 +13,11 @@ use Rattle.ca_dbr.specs.declared.data_type.BaseType.TheVariants as base
 use Rattle.ca_dbr.specs.declared.data_type.DataType.{DataType}
 use Rattle.ca_dbr.specs.declared.value.Meta.{Meta}
 use Rattle.ca_dbr.specs.Types.{element_size, padding_size}
-use Rattle.ca_dbr.specs.Elements.{Elements, strings, ints, floats, enums, chars, longs, doubles, base_of, count_of, bytes_of, IsValue, string_bytes, byte_1, bytes_2, bytes_4, bytes_8, signed_bytes_2, signed_bytes_4}
+use Rattle.ca_dbr.specs.Display.{DisplayData}
+use Rattle.ca_dbr.specs.Elements.{Elements, strings, ints, floats, enums, chars, longs, doubles, displayed, base_of, count_of, bytes_of, IsValue, string_bytes, byte_1, bytes_2, bytes_4, bytes_8, signed_bytes_2, signed_bytes_4}
 use Rattle.ca_dbr.specs.Image.{meta_bytes}
 use Rattle.ca_dbr.specs.Number.{text_of, number_in, number_text}
-use Rattle.ca_dbr.specs.Conversion.{in_signed, in_unsigned, numbered, first_and, gathered, then_elements, in_base, converted}
+use Rattle.ca_dbr.specs.Conversion.{in_signed, in_unsigned, numbered, first_and, gathered, then_elements, in_base, with_data, converted}
 use Rattle.ca_dbr.specs.Shown.{first_elements, with_zeros, zeros_behind, shown, PutsShown}
 
 -- ---- zero bytes
@@ -66,6 +67,7 @@ bytes_of-with_zeros n (enums xs) = behind_pieces bytes_2 0 2 n xs zero_bytes_2
 bytes_of-with_zeros n (chars xs) = behind_pieces byte_1 0 1 n xs zero_byte_1
 bytes_of-with_zeros n (longs xs) = behind_pieces signed_bytes_4 (pos 0) 4 n xs zero_signed_bytes_4
 bytes_of-with_zeros n (doubles xs) = behind_pieces bytes_8 0 8 n xs zero_bytes_8
+bytes_of-with_zeros n (displayed d e) = bytes_of-with_zeros n e
 
 All_behind : {X : Type 0} (P : X → Type 0) (xs : List X) (n : ℕ) (z : X) → All P xs → P z → All P (xs ++ replicate n z)
 All_behind P xs n z all is = All-append P xs (replicate n z) all (λ k d h. subst P (sym (get_or-replicate n k z d (omega (arith, h, length-replicate n z)))) is)
@@ -78,6 +80,7 @@ IsValue-with_zeros n (enums xs) v = All_behind (λ k. k < 2 ^ 16) xs n 0 v (omeg
 IsValue-with_zeros n (chars xs) v = All_behind (λ k. k < 2 ^ 8) xs n 0 v (omega arith)
 IsValue-with_zeros n (longs xs) v = All_behind (λ z. FitsSigned w32 z) xs n (pos 0) v (record { sfits = omega arith })
 IsValue-with_zeros n (doubles xs) v = All_behind (λ k. k < 2 ^ 64) xs n 0 v (omega arith)
+IsValue-with_zeros n (displayed d e) v = absurd v
 
 pub base_of-with_zeros : (n : ℕ) (e : Elements) → base_of (with_zeros n e) ≡ base_of e
 base_of-with_zeros n (strings xs) = refl
@@ -87,6 +90,7 @@ base_of-with_zeros n (enums xs) = refl
 base_of-with_zeros n (chars xs) = refl
 base_of-with_zeros n (longs xs) = refl
 base_of-with_zeros n (doubles xs) = refl
+base_of-with_zeros n (displayed d e) = base_of-with_zeros n e
 
 -- ---- the type of what was converted
 
@@ -112,6 +116,11 @@ in_base-based number xs base.Long f h = based_then longs base.Long (λ ys. refl)
 in_base-based number xs base.Float f h = absurd (no_err refusal.NoConvert f h)
 in_base-based number xs base.Double f h = absurd (no_err refusal.NoConvert f h)
 
+-- what has display data was made with them
+pub with_data-made : (d : DisplayData) (r : Result Elements Refusal) (f : Elements) → with_data d r ≡ Ok f → (g : Elements) × (r ≡ Ok g) × (f ≡ displayed d g)
+with_data-made d (Ok g) f h = (g, refl, sym (same_ok (displayed d g) f h))
+with_data-made d (Err e) f h = absurd (no_err e f h)
+
 -- what is converted has the wanted type
 pub converted-based : (e : Elements) (b : BaseType) (f : Elements) → converted e b ≡ Ok f → base_of f ≡ b
 converted-based (strings xs) base.String f h = ap base_of (sym (same_ok (strings xs) f h))
@@ -128,6 +137,9 @@ converted-based (floats xs) base.Float f h = ap base_of (sym (same_ok (floats xs
 converted-based (floats xs) b f h = absurd (no_err refusal.NoConvert f h)
 converted-based (doubles xs) base.Double f h = ap base_of (sym (same_ok (doubles xs) f h))
 converted-based (doubles xs) b f h = absurd (no_err refusal.NoConvert f h)
+converted-based (displayed d e) b f h =
+    let made = with_data-made d (converted e b) f h in
+    ap base_of made.2 ∙ converted-based e b made.0 made.1
 
 -- ---- its count
 
@@ -169,6 +181,9 @@ converted-counted (floats xs) base.Float f h = ap count_of (sym (same_ok (floats
 converted-counted (floats xs) b f h = absurd (no_err refusal.NoConvert f h)
 converted-counted (doubles xs) base.Double f h = ap count_of (sym (same_ok (doubles xs) f h))
 converted-counted (doubles xs) b f h = absurd (no_err refusal.NoConvert f h)
+converted-counted (displayed d e) b f h =
+    let made = with_data-made d (converted e b) f h in
+    ap count_of made.2 ∙ converted-counted e b made.0 made.1
 
 count_of-first : (n : ℕ) (e : Elements) → count_of (first_elements n e) ≡ min n (count_of e)
 count_of-first n (strings xs) = length-take n xs
@@ -178,6 +193,7 @@ count_of-first n (enums xs) = length-take n xs
 count_of-first n (chars xs) = length-take n xs
 count_of-first n (longs xs) = length-take n xs
 count_of-first n (doubles xs) = length-take n xs
+count_of-first n (displayed d e) = count_of-first n e
 
 count_behind : {X : Type 0} (xs : List X) (n : ℕ) (z : X) → length (xs ++ replicate n z) ≡ length xs + n
 count_behind xs n z = omega (arith, length-append xs (replicate n z), length-replicate n z)
@@ -190,6 +206,7 @@ count_of-with_zeros n (enums xs) = count_behind xs n 0
 count_of-with_zeros n (chars xs) = count_behind xs n 0
 count_of-with_zeros n (longs xs) = count_behind xs n (pos 0)
 count_of-with_zeros n (doubles xs) = count_behind xs n 0
+count_of-with_zeros n (displayed d e) = count_of-with_zeros n e
 
 shown_parts : (n : ℕ) (r : Result Elements Refusal) (f : Elements) → zeros_behind n r ≡ Ok f → (g : Elements) × (r ≡ Ok g) × (f ≡ with_zeros n g)
 shown_parts n (Ok g) f h = (g, refl, sym (same_ok (with_zeros n g) f h))

@@ -14,7 +14,7 @@ use Rattle.ca_dbr.specs.declared.data_type.Form.{Form}
 use Rattle.ca_dbr.specs.declared.data_type.Form.TheVariants as form
 use Rattle.ca_dbr.specs.declared.data_type.DataType.{DataType}
 use Rattle.ca_dbr.specs.Types.{form_number, type_at, type_number}
-use Rattle.ca_dbr.specs.Elements.{Elements, strings, ints, floats, enums, chars, longs, doubles, count_of, IsValue}
+use Rattle.ca_dbr.specs.Elements.{Elements, strings, ints, floats, enums, chars, longs, doubles, displayed, count_of, IsValue}
 use Rattle.ca_dbr.specs.Number.{text_of, number_in, number_text}
 use Rattle.ca_dbr.specs.Conversion.{in_signed, in_unsigned, numbered, first_and, gathered, then_elements, in_base, converted}
 use Rattle.ca_dbr.specs.Shown.{first_elements, with_zeros, zeros_behind, shown}
@@ -119,6 +119,7 @@ converted-valued (floats xs) base.Float f v h = same_value (floats xs) f v h
 converted-valued (floats xs) b f v h = absurd (no_err refusal.NoConvert f h)
 converted-valued (doubles xs) base.Double f v h = same_value (doubles xs) f v h
 converted-valued (doubles xs) b f v h = absurd (no_err refusal.NoConvert f h)
+converted-valued (displayed d e) b f v h = absurd v
 
 -- ---- what is shown
 
@@ -133,6 +134,7 @@ first-valued n (enums xs) v = All-first (λ k. k < 2 ^ 16) n xs v
 first-valued n (chars xs) v = All-first (λ k. k < 2 ^ 8) n xs v
 first-valued n (longs xs) v = All-first (λ z. FitsSigned w32 z) n xs v
 first-valued n (doubles xs) v = All-first (λ k. k < 2 ^ 64) n xs v
+first-valued n (displayed d e) v = absurd v
 
 zeros-valued : (n : ℕ) (r : Result Elements Refusal) (f : Elements) → ((g : Elements) → r ≡ Ok g → IsValue g) → zeros_behind n r ≡ Ok f → IsValue f
 zeros-valued n (Ok g) f each h = let P : Elements → Type 0 = λ x. IsValue x in subst P (same_ok (with_zeros n g) f h) (IsValue-with_zeros n g (each g refl))

@@ -7,7 +7,9 @@ use Rattle.ca_text.specs.declared.refusal.Refusal.TheVariants as refusal
 use Rattle.ca_dbr.specs.declared.data_type.BaseType.{BaseType}
 use Rattle.ca_dbr.specs.declared.data_type.BaseType.TheVariants as base
 use Rattle.ca_dbr.specs.Types.{base_number}
+use Rattle.ca_dbr.specs.Display.{DisplayData}
 use Rattle.ca_dbr.specs.Elements.{Elements, strings, ints, floats, enums, chars, longs, doubles}
+use Rattle.ca_dbr.specs.Elements.{displayed}
 use Rattle.ca_dbr.specs.Number.{text_of, number_in, number_text}
 
 -- from -(2 ^ n) to 2 ^ n - 1
@@ -63,8 +65,13 @@ in_base number xs base.Long =
 in_base number xs base.Float = Err refusal.NoConvert
 in_base number xs base.Double = Err refusal.NoConvert
 
+-- the result with these display data
+abbrev pub with_data : DisplayData → Result Elements Refusal → Result Elements Refusal
+with_data d (Ok e) = Ok (displayed d e)
+with_data d (Err r) = Err r
+
 -- Each type converts to itself. FLOAT and DOUBLE convert to nothing else, and nothing
--- else converts to them.
+-- else converts to them. Display data stay.
 abbrev pub converted : Elements → BaseType → Result Elements Refusal
 converted (strings xs) base.String = Ok (strings xs)
 converted (strings xs) b = in_base (λ x. number_in (text_of x)) xs b
@@ -80,6 +87,7 @@ converted (floats xs) base.Float = Ok (floats xs)
 converted (floats xs) _ = Err refusal.NoConvert
 converted (doubles xs) base.Double = Ok (doubles xs)
 converted (doubles xs) _ = Err refusal.NoConvert
+converted (displayed d e) b = with_data d (converted e b)
 
 -- why elements are not converted to the plain type of this number
 abbrev pub ConvertRefused : Elements → ℕ → Refusal → Type 0

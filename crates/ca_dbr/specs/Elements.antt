@@ -4,10 +4,12 @@ use Rattle.std.specs.Int.{w16, w32, w64, to_be_bytes, cast_unsigned}
 use Rattle.std.specs.List.{flat_map}
 use Rattle.ca_dbr.specs.declared.data_type.BaseType.{BaseType}
 use Rattle.ca_dbr.specs.declared.data_type.BaseType.TheVariants as base
+use Rattle.ca_dbr.specs.Display.{DisplayData}
 use Rattle.ca_dbr.specs.declared.value.Value.{Value}
 use Rattle.ca_dbr.specs.declared.value.Value.TheVariants as value
 
--- A STRING element is its 40 bytes, FLOAT and DOUBLE elements are bit patterns.
+-- A STRING element is its 40 bytes, FLOAT and DOUBLE elements are bit patterns. The elements of a
+-- record with display data have these with them.
 pub data Elements : Type 0 where
   strings : List (List ℕ) → Elements
   ints : List ℤ → Elements
@@ -16,6 +18,7 @@ pub data Elements : Type 0 where
   chars : List ℕ → Elements
   longs : List ℤ → Elements
   doubles : List ℕ → Elements
+  displayed : DisplayData → Elements → Elements
 
 -- the elements of a value of the program
 abbrev pub elements : Value → Elements
@@ -35,6 +38,7 @@ base_of (enums xs) = base.Enum
 base_of (chars xs) = base.Char
 base_of (longs xs) = base.Long
 base_of (doubles xs) = base.Double
+base_of (displayed d e) = base_of e
 
 abbrev pub count_of : Elements → ℕ
 count_of (strings xs) = length xs
@@ -44,8 +48,9 @@ count_of (enums xs) = length xs
 count_of (chars xs) = length xs
 count_of (longs xs) = length xs
 count_of (doubles xs) = length xs
+count_of (displayed d e) = count_of e
 
--- each element is one of its type
+-- Each element is one of its type, and they are without display data, as in a message.
 abbrev pub IsValue : Elements → Type 0
 IsValue (strings xs) = All (λ x. length x ≡ 40) xs
 IsValue (ints xs) = All (λ z. FitsSigned w16 z) xs
@@ -54,6 +59,7 @@ IsValue (enums xs) = All (λ n. n < 2 ^ 16) xs
 IsValue (chars xs) = All (λ n. n < 2 ^ 8) xs
 IsValue (longs xs) = All (λ z. FitsSigned w32 z) xs
 IsValue (doubles xs) = All (λ n. n < 2 ^ 64) xs
+IsValue (displayed d e) = ⊥
 
 -- the bytes of an element, the highest first
 unfoldable pub string_bytes : List ℕ → List ℕ
@@ -87,3 +93,4 @@ bytes_of (enums xs) = flat_map bytes_2 xs
 bytes_of (chars xs) = flat_map byte_1 xs
 bytes_of (longs xs) = flat_map signed_bytes_4 xs
 bytes_of (doubles xs) = flat_map bytes_8 xs
+bytes_of (displayed d e) = bytes_of e

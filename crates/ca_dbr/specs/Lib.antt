@@ -1,9 +1,12 @@
 pub mod Types
+pub mod Display
 pub mod Elements
 pub mod Image
 pub mod Reading
 pub mod Number
 pub mod Conversion
+pub mod Held
+pub mod Codes
 pub mod Shown
 pub mod Octets
 pub mod Scalar

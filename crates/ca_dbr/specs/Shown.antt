@@ -9,6 +9,7 @@ use Rattle.ca_dbr.specs.declared.data_type.DataType.{DataType}
 use Rattle.ca_dbr.specs.declared.value.Meta.{Meta}
 use Rattle.ca_dbr.specs.Types.{type_number}
 use Rattle.ca_dbr.specs.Elements.{Elements, strings, ints, floats, enums, chars, longs, doubles}
+use Rattle.ca_dbr.specs.Elements.{displayed}
 use Rattle.ca_dbr.specs.Elements.{count_of, bytes_of, IsValue}
 use Rattle.ca_dbr.specs.Image.{image}
 use Rattle.ca_dbr.specs.Conversion.{Fails, converted}
@@ -22,6 +23,7 @@ first_elements n (enums xs) = enums (take n xs)
 first_elements n (chars xs) = chars (take n xs)
 first_elements n (longs xs) = longs (take n xs)
 first_elements n (doubles xs) = doubles (take n xs)
+first_elements n (displayed d e) = displayed d (first_elements n e)
 
 -- n elements of zero bytes after these
 abbrev pub with_zeros : ℕ → Elements → Elements
@@ -32,6 +34,7 @@ with_zeros n (enums xs) = enums (xs ++ replicate n 0)
 with_zeros n (chars xs) = chars (xs ++ replicate n 0)
 with_zeros n (longs xs) = longs (xs ++ replicate n (pos 0))
 with_zeros n (doubles xs) = doubles (xs ++ replicate n 0)
+with_zeros n (displayed d e) = displayed d (with_zeros n e)
 
 abbrev pub zeros_behind : ℕ → Result Elements Refusal → Result Elements Refusal
 zeros_behind n (Ok e) = Ok (with_zeros n e)

@@ -3,6 +3,7 @@
 ghost use Rattle.std.specs.Prelude.{◌≡◌, ◌≢◌, IfOk, IfErr, OnErr, length};
 ghost use Rattle.ca_text.specs.declared.refusal.Refusal.TheVariants.{OutOfMemory};
 ghost use Rattle.ca_dbr.specs.Elements.{elements, base_of, count_of, IsValue};
+ghost use Rattle.ca_dbr.specs.Held.{IsHeldValue};
 
 use crate::data_type::BaseType;
 use crate::element::know_all;
@@ -90,9 +91,10 @@ impl Value {
         }
     }
 
-    /// Tells that each element is one of its type. It does nothing.
+    /// Tells that each element is one of its type, so that a record may hold it. It does nothing.
     pub fn know(&self)
-        ensures { IsValue (elements self.now) }
+        ensures valued { IsValue (elements self.now) }
+        ensures held { IsHeldValue (elements self.now) }
     {
         match self {
             Value::Strings(items) => know_all(items),

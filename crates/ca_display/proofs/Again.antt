@@ -14,6 +14,7 @@ use Rattle.ca_dbr.specs.declared.data_type.BaseType.TheVariants as base
 use Rattle.ca_dbr.specs.declared.data_type.Form.TheVariants as plain_form
 use Rattle.ca_dbr.specs.declared.value.Meta.{Meta}
 use Rattle.ca_dbr.specs.Types.{element_size}
+use Rattle.ca_dbr.specs.Display.{DisplayData, IsData}
 use Rattle.ca_dbr.specs.Elements.{Elements, base_of, count_of, bytes_of, IsValue}
 use Rattle.ca_dbr.specs.Image.{meta_bytes}
 use Rattle.ca_dbr.specs.Reading.{carried, IsMeta, ReadsElements}
@@ -26,7 +27,6 @@ use Rattle.ca_display.specs.declared.image_type.ImageType.{ImageType}
 use Rattle.ca_display.specs.declared.image_type.ImageType.TheVariants as any
 use Rattle.ca_display.specs.Types.{base_in, limit_count}
 use Rattle.ca_display.specs.Limits.{int_limit, char_limit, long_limit, float_limit, double_limit, limits_in}
-use Rattle.ca_display.specs.Data.{DisplayData, IsData}
 use Rattle.ca_display.specs.Image.{data_bytes, limit_bytes, display_image, image_in, size_in, size_of_display}
 use Rattle.ca_display.specs.Reading.{ReadsLimits, ReadsWhole, ReadsData, ReadsDisplay, limits_carried, whole_carried, carried_data}
 use Rattle.ca_display.proofs.Images.{plain, zero_meta, base_of-limits}

@@ -9,6 +9,7 @@ use Rattle.ca_dbr.specs.declared.data_type.Form.TheVariants as plain_form
 use Rattle.ca_dbr.specs.declared.data_type.DataType.{DataType}
 use Rattle.ca_dbr.specs.declared.value.Meta.{Meta}
 use Rattle.ca_dbr.specs.Types.{base_number, type_number, element_size, size_of_image}
+use Rattle.ca_dbr.specs.Display.{DisplayData}
 use Rattle.ca_dbr.specs.Elements.{Elements, base_of, bytes_of}
 use Rattle.ca_dbr.specs.Image.{image, meta_bytes}
 use Rattle.ca_dbr.specs.Shown.{shown, WritesShown}
@@ -21,7 +22,6 @@ use Rattle.ca_display.specs.declared.image_type.ImageType.{ImageType}
 use Rattle.ca_display.specs.declared.image_type.ImageType.TheVariants as any
 use Rattle.ca_display.specs.Types.{base_in, display_number, form_number, image_number}
 use Rattle.ca_display.specs.Limits.{limits_in}
-use Rattle.ca_display.specs.Data.{DisplayData}
 use Rattle.ca_display.specs.Image.{PutsOwn, WritesIn, data_bytes, display_image}
 use Rattle.ca_display.proofs.Shown.{ShowsAs, own-shows}
 

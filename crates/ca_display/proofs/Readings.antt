@@ -12,7 +12,8 @@ use Rattle.ca_dbr.specs.declared.data_type.Form.TheVariants as plain_form
 use Rattle.ca_dbr.specs.declared.data_type.DataType.{DataType}
 use Rattle.ca_dbr.specs.declared.value.Meta.{Meta}
 use Rattle.ca_dbr.specs.Types.{base_number, type_number, element_size}
-use Rattle.ca_dbr.specs.Elements.{Elements, strings, ints, floats, enums, chars, longs, doubles, base_of, count_of, bytes_of, IsValue, bytes_2, signed_bytes_2, string_bytes}
+use Rattle.ca_dbr.specs.Display.{DisplayData}
+use Rattle.ca_dbr.specs.Elements.{Elements, strings, ints, floats, enums, chars, longs, doubles, displayed, base_of, count_of, bytes_of, IsValue, bytes_2, signed_bytes_2, string_bytes}
 use Rattle.ca_dbr.specs.Image.{meta_bytes}
 use Rattle.ca_dbr.specs.Reading.{carried, filled, least_size, IsLong, IsMeta, ReadsElements, Reads, ReadRefused}
 use Rattle.ca_dbr.proofs.Images.{length-bytes_of, length-bytes_2, length-signed_bytes_2, length-meta_bytes, length-pieces}
@@ -23,7 +24,7 @@ use Rattle.ca_display.specs.declared.display_type.DisplayType.{DisplayType}
 use Rattle.ca_display.specs.declared.display_type.DisplayForm.TheVariants as form
 use Rattle.ca_display.specs.Types.{display_number, limit_count, data_size}
 use Rattle.ca_display.specs.Limits.{as_doubles, whole_as_double, natural_as_double, float_as_double, double_limit}
-use Rattle.ca_display.specs.Data.{DisplayData, in_field}
+use Rattle.ca_display.specs.Data.{in_field}
 use Rattle.ca_display.specs.Reading.{limits_from, ReadsLimits, ReadsReal, ReadsWhole, ReadsStates, ReadsData, ReadsDisplay, DisplayRefused}
 use Rattle.ca_display.proofs.Images.{plain, plain-one}
 
@@ -63,6 +64,7 @@ length-as_doubles (enums xs) = omega arith
 length-as_doubles (chars xs) = omega (arith, length-map xs natural_as_double)
 length-as_doubles (longs xs) = omega (arith, length-map xs whole_as_double)
 length-as_doubles (doubles xs) = omega (arith, length-map xs double_limit)
+length-as_doubles (displayed d e) = length-as_doubles e
 
 -- a list of eight by its items
 eight_parts : (xs : List ℕ) → length xs ≡ 8 → slice_index_or xs 0 0 ∷ slice_index_or xs 1 0 ∷ slice_index_or xs 2 0 ∷ slice_index_or xs 3 0 ∷ slice_index_or xs 4 0 ∷ slice_index_or xs 5 0 ∷ slice_index_or xs 6 0 ∷ slice_index_or xs 7 0 ∷ [] ≡ xs

@@ -6,13 +6,14 @@ use Rattle.ca_text.specs.declared.refusal.Refusal.{Refusal}
 use Rattle.ca_text.specs.declared.refusal.Refusal.TheVariants as refusal
 use Rattle.ca_dbr.specs.declared.data_type.BaseType.{BaseType}
 use Rattle.ca_dbr.specs.declared.data_type.BaseType.TheVariants as base
-use Rattle.ca_dbr.specs.Elements.{Elements, strings, ints, floats, enums, chars, longs, doubles, base_of, count_of}
+use Rattle.ca_dbr.specs.Display.{DisplayData}
+use Rattle.ca_dbr.specs.Elements.{Elements, strings, ints, floats, enums, chars, longs, doubles, displayed, base_of, count_of}
 use Rattle.ca_dbr.specs.Number.{text_of}
-use Rattle.ca_dbr.specs.Conversion.{Fails, first_and, gathered, in_signed, in_unsigned, then_elements}
+use Rattle.ca_dbr.specs.Conversion.{Fails, converted, first_and, gathered, in_signed, in_unsigned, then_elements, with_data}
 use Rattle.ca_dbr.specs.Shown.{first_elements, shown, with_zeros, zeros_behind}
-use Rattle.ca_dbr.proofs.Shows.{converted-based, converted-counted, shown-is}
+use Rattle.ca_dbr.proofs.Helds.{with_data-behind}
+use Rattle.ca_dbr.proofs.Shows.{converted-based, converted-counted, shown-is, with_data-made}
 use Rattle.ca_display.specs.declared.number.Number.{Number}
-use Rattle.ca_display.specs.Data.{DisplayData}
 use Rattle.ca_display.specs.Number.{as_double, as_float, float_text}
 use Rattle.ca_display.specs.Image.{IsUnshown}
 use Rattle.ca_display.specs.Conversion.{and_number, as_whole, display_converted, display_shown, double_shown, enum_text, float_shown, in_numbers, of_double, of_float, of_natural, of_text, of_whole, state_of}
@@ -82,6 +83,10 @@ display_converted-is d (floats xs) b f h = in_numbers-is of_float xs b f h
 display_converted-is d (doubles xs) base.Double f h = (converted-based (doubles xs) base.Double f h, converted-counted (doubles xs) base.Double f h)
 display_converted-is d (doubles xs) base.String f h = made-is strings base.String (length xs) (λ ys. (refl, refl)) _ (each-gathered (double_shown d) xs) f h
 display_converted-is d (doubles xs) b f h = in_numbers-is of_double xs b f h
+display_converted-is d (displayed c e) b f h =
+    let made = with_data-made c (display_converted d e b) f h in
+    let is = display_converted-is d e b made.0 made.1 in
+    (ap base_of made.2 ∙ is.0, ap count_of made.2 ∙ is.1)
 
 -- ---- the first elements
 
@@ -93,6 +98,7 @@ first_elements-all n (enums xs) h = ap (λ (l : List ℕ). enums l) (take_all n 
 first_elements-all n (chars xs) h = ap (λ (l : List ℕ). chars l) (take_all n xs h)
 first_elements-all n (longs xs) h = ap (λ l. longs l) (take_all n xs h)
 first_elements-all n (doubles xs) h = ap (λ (l : List ℕ). doubles l) (take_all n xs h)
+first_elements-all n (displayed d e) h = ap (displayed d) (first_elements-all n e h)
 
 count_of-first : (n : ℕ) (e : Elements) → count_of (first_elements n e) ≡ min n (count_of e)
 count_of-first n (strings xs) = length-take n xs
@@ -102,6 +108,7 @@ count_of-first n (enums xs) = length-take n xs
 count_of-first n (chars xs) = length-take n xs
 count_of-first n (longs xs) = length-take n xs
 count_of-first n (doubles xs) = length-take n xs
+count_of-first n (displayed d e) = count_of-first n e
 
 -- ---- what is shown
 
@@ -114,6 +121,8 @@ own-shown (enums xs) count = refl
 own-shown (chars xs) count = refl
 own-shown (longs xs) count = refl
 own-shown (doubles xs) count = refl
+own-shown (displayed d e) count =
+    with_data-behind d (count - count_of e) (converted (first_elements count e) (base_of e)) ∙ ap (λ (r : Result Elements Refusal). with_data d r) (own-shown e count)
 
 -- and not refused
 pub own-shows : (e : Elements) (count : ℕ) (r : Refusal) → shown e count (base_of e) ≡ Err r → ⊥
@@ -128,6 +137,11 @@ same-own d (enums xs) count = refl
 same-own d (chars xs) count = refl
 same-own d (longs xs) count = refl
 same-own d (doubles xs) count = refl
+same-own d (displayed c e) count =
+    let n = count - count_of e in
+    let made = display_converted d (first_elements count e) (base_of e) in
+    let own = converted (first_elements count e) (base_of e) in
+    with_data-behind c n made ∙ ap (λ (r : Result Elements Refusal). with_data c r) (same-own d e count) ∙ sym (with_data-behind c n own)
 
 -- these are shown in a type as those are with display data
 abbrev pub ShowsAs : DisplayData → (given wanted : Elements) → ℕ → BaseType → Type 0

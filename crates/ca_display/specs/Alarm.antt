@@ -4,6 +4,7 @@ use Rattle.std.specs.Float.{Float, binary64}
 use Rattle.std.specs.Float.Ieee.{le}
 use Rattle.ca_text.specs.declared.refusal.Refusal.{Refusal}
 use Rattle.ca_dbr.specs.Elements.{Elements, strings, ints, floats, enums, chars, longs, doubles}
+use Rattle.ca_dbr.specs.Elements.{displayed}
 use Rattle.ca_display.specs.declared.number.Number.{Number}
 use Rattle.ca_display.specs.Number.{as_double}
 use Rattle.ca_display.specs.Conversion.{of_whole, of_natural, of_float, of_double}
@@ -42,3 +43,4 @@ alarm_of limits (enums xs) = (0, 0)
 alarm_of limits (chars xs) = one_alarm limits of_natural xs
 alarm_of limits (longs xs) = one_alarm limits of_whole xs
 alarm_of limits (doubles xs) = one_alarm limits of_double xs
+alarm_of limits (displayed d e) = alarm_of limits e

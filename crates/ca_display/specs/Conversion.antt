@@ -5,14 +5,15 @@ use Rattle.ca_text.specs.declared.refusal.Refusal.{Refusal}
 use Rattle.ca_text.specs.declared.refusal.Refusal.TheVariants as refusal
 use Rattle.ca_dbr.specs.declared.data_type.BaseType.{BaseType}
 use Rattle.ca_dbr.specs.declared.data_type.BaseType.TheVariants as base
+use Rattle.ca_dbr.specs.Display.{DisplayData}
 use Rattle.ca_dbr.specs.Elements.{Elements, strings, ints, floats, enums, chars, longs, doubles}
-use Rattle.ca_dbr.specs.Elements.{count_of}
+use Rattle.ca_dbr.specs.Elements.{displayed, count_of}
 use Rattle.ca_dbr.specs.Number.{text_of}
-use Rattle.ca_dbr.specs.Conversion.{in_signed, in_unsigned, gathered, then_elements, converted}
+use Rattle.ca_dbr.specs.Conversion.{in_signed, in_unsigned, gathered, then_elements, with_data}
+use Rattle.ca_dbr.specs.Conversion.{converted}
 use Rattle.ca_dbr.specs.Shown.{first_elements, zeros_behind}
 use Rattle.ca_display.specs.declared.number.Number.{Number}
 use Rattle.ca_display.specs.declared.number.Number.TheVariants as number
-use Rattle.ca_display.specs.Data.{DisplayData}
 use Rattle.ca_display.specs.Number.{whole_of, in_type, as_float, as_double, float_text, text_number}
 use Rattle.ca_display.specs.States.{state_text, state_number}
 use Rattle.ca_display.specs.Real.{real_text}
@@ -109,6 +110,7 @@ display_converted d (doubles xs) base.Double = converted (doubles xs) base.Doubl
 display_converted d (doubles xs) base.String =
     then_elements strings (gathered (double_shown d) xs)
 display_converted d (doubles xs) b = in_numbers of_double xs b
+display_converted d (displayed c e) b = with_data c (display_converted d e b)
 
 -- What a read shows: n elements, in a type. A count below the present one takes the first elements,
 -- before they are converted; after the present ones elements of zero bytes follow.

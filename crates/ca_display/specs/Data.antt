@@ -1,19 +1,11 @@
--- What display data is.
-use Rattle.std.specs.Prelude.{ℕ, ◌≡◌, ◌<◌, ◌≤◌, ◌-◌, ◌^◌, ℤ, List, [], ◌∷◌, ◌++◌, length, replicate}
-use Rattle.std.specs.Prelude.{All, Contains, FitsSigned}
-use Rattle.std.specs.Int.{w16}
+-- The display data of the program, and how they are made.
+use Rattle.std.specs.Prelude.{ℕ, ◌<◌, ◌≤◌, ◌-◌, List, [], ◌∷◌, ◌++◌, length, replicate}
+use Rattle.std.specs.Prelude.{Contains}
 use Rattle.ca_text.specs.declared.refusal.Refusal.{Refusal}
 use Rattle.ca_text.specs.declared.refusal.Refusal.TheVariants as refusal
+use Rattle.ca_dbr.specs.Display.{DisplayData}
 use Rattle.ca_display.specs.declared.display.Limits.{Limits}
 use Rattle.ca_display.specs.declared.display.Display.{Display}
-
--- Units are the 8 bytes of a field, a state's name is the 26 of one; limits are bit patterns of
--- DOUBLEs, in the order that images have them.
-pub record DisplayData : Type 0 where
-  pub units : List ℕ
-  pub precision : ℤ
-  pub limits : List ℕ
-  pub states : List (List ℕ)
 
 -- upper and lower limit of the display; of alarm, of warning, each upper one first; of control
 abbrev pub limits_of : Limits → List ℕ
@@ -30,15 +22,6 @@ data_of d =
       limits = limits_of d.limits;
       states = d.states.items;
     }
-
--- each part is one of its kind, and there are at most 16 states
-pub record IsData (d : DisplayData) : Type 0 where
-  pub units : length d.units ≡ 8
-  pub precision : FitsSigned w16 d.precision
-  pub limits : length d.limits ≡ 8
-  pub patterns : All (λ n. n < 2 ^ 64) d.limits
-  pub states : length d.states ≤ 16
-  pub names : All (λ x. length x ≡ 26) d.states
 
 -- a text fits a field of n bytes, and a zero byte is after it
 pub record FitsField (size : ℕ) (text : List ℕ) : Type 0 where

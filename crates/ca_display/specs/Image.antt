@@ -10,6 +10,7 @@ use Rattle.ca_dbr.specs.declared.data_type.BaseType.TheVariants as base
 use Rattle.ca_dbr.specs.declared.data_type.Form.TheVariants as plain_form
 use Rattle.ca_dbr.specs.declared.value.Meta.{Meta}
 use Rattle.ca_dbr.specs.Types.{element_size, size_of_image}
+use Rattle.ca_dbr.specs.Display.{DisplayData}
 use Rattle.ca_dbr.specs.Elements.{Elements, bytes_2, bytes_of, signed_bytes_2}
 use Rattle.ca_dbr.specs.Elements.{string_bytes}
 use Rattle.ca_dbr.specs.Image.{image, meta_bytes}
@@ -21,7 +22,6 @@ use Rattle.ca_display.specs.declared.image_type.ImageType.TheVariants as any
 use Rattle.ca_display.specs.Types.{image_number, base_in, limit_count, data_size}
 use Rattle.ca_display.specs.Conversion.{display_shown}
 use Rattle.ca_display.specs.Limits.{limits_in}
-use Rattle.ca_display.specs.Data.{DisplayData}
 
 -- units, and the limits in the type of the image
 abbrev pub limit_bytes : BaseType → DisplayForm → DisplayData → List ℕ

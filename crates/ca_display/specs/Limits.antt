@@ -6,6 +6,7 @@ use Rattle.std.specs.Float.Ieee.{of_int}
 use Rattle.ca_dbr.specs.declared.data_type.BaseType.{BaseType}
 use Rattle.ca_dbr.specs.declared.data_type.BaseType.TheVariants as base
 use Rattle.ca_dbr.specs.Elements.{Elements, strings, ints, floats, enums, chars, longs, doubles}
+use Rattle.ca_dbr.specs.Elements.{displayed}
 
 -- A limit is the bit pattern of a DOUBLE. As a LONG it goes towards zero; outside the type it is
 -- the nearest number of it, and no number is 0.
@@ -55,3 +56,4 @@ as_doubles (enums xs) = []
 as_doubles (chars xs) = map natural_as_double xs
 as_doubles (longs xs) = map whole_as_double xs
 as_doubles (doubles xs) = map double_limit xs
+as_doubles (displayed d e) = as_doubles e

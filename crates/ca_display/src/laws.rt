@@ -3,13 +3,13 @@ ghost use Rattle.std.specs.Prelude.{◌≡◌, ℕ, ◌++◌, List, length, Ok};
 ghost use Rattle.ca_dbr.specs.declared.data_type.Form.TheVariants as plain_form;
 ghost use Rattle.ca_dbr.specs.declared.data_type.BaseType.{BaseType};
 ghost use Rattle.ca_dbr.specs.declared.value.Meta.{Meta};
+ghost use Rattle.ca_dbr.specs.Display.{DisplayData, IsData};
 ghost use Rattle.ca_dbr.specs.Elements.{Elements, base_of, count_of, IsValue};
 ghost use Rattle.ca_dbr.specs.Reading.{carried, IsMeta};
 ghost use Rattle.ca_display.specs.declared.display_type.DisplayType.{DisplayType};
 ghost use Rattle.ca_display.specs.declared.image_type.ImageType.{ImageType};
 ghost use Rattle.ca_display.specs.Types.{base_in, image_number};
 ghost use Rattle.ca_display.specs.Conversion.{display_shown};
-ghost use Rattle.ca_display.specs.Data.{DisplayData, IsData};
 ghost use Rattle.ca_display.specs.Image.{display_image, image_in, size_in};
 ghost use Rattle.ca_display.specs.Reading.{carried_data, ReadsDisplay};
 

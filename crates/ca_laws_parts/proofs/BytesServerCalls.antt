@@ -6,7 +6,8 @@ use Rattle.std.specs.Str.{bytes_eq}
 use Rattle.std.proofs.lemmas.List.{length-replicate}
 use Rattle.ca_arena.specs.declared.handle.Handle.{Handle}
 use Rattle.ca_dbr.specs.declared.data_type.DataType.{DataType}
-use Rattle.ca_dbr.specs.Elements.{Elements, IsValue, count_of}
+use Rattle.ca_dbr.specs.Elements.{Elements, count_of}
+use Rattle.ca_dbr.specs.Held.{IsHeldValue}
 use Rattle.ca_dbr.specs.Image.{image}
 use Rattle.ca_dbr.specs.Shown.{shown}
 use Rattle.ca_dbr.specs.Types.{size_of_image}
@@ -110,7 +111,7 @@ after-post-fits name mask v gone y one f = record {
         go true is = absurd (open-ended e why.OutOfMemory d.link.output is)
         go false is = subst EndFits (sym (open-one e (with_post name mask v d) is)) (post-fits name mask v d one (f.ends h d there))
 
-pub posts-fits : (y : Server) (name : List ℕ) (e : Elements) (mask : ℕ) (gone : Handle → Bool) (core : Server) → IsValue e → Posts y name (record { value = e; meta = unset }) mask gone (Ok tt) core → ServerFits y → ServerFits core
+pub posts-fits : (y : Server) (name : List ℕ) (e : Elements) (mask : ℕ) (gone : Handle → Bool) (core : Server) → IsHeldValue e → Posts y name (record { value = e; meta = unset }) mask gone (Ok tt) core → ServerFits y → ServerFits core
 posts-fits y name e mask gone core valued (post, may, is) f =
     let v : Stored = record { value = e; meta = unset } in
     let r : Record = post.0 in
@@ -356,7 +357,7 @@ removes-fits y name gone left new (some, may, is) f = subst ServerFits (sym is) 
         go true is = absurd (open-ended e why.OutOfMemory _ is)
         go false is = subst EndFits (sym (open-one e (end_without name d) is)) (removal-fits name d (f.ends h d there))
 
-pub adds-fits : (y : Server) (s : RecordState) (behind : ℕ) (new : Server) → IsValue s.value → AddsRecord y s behind (Ok tt) new → ServerFits y → ServerFits new
+pub adds-fits : (y : Server) (s : RecordState) (behind : ℕ) (new : Server) → IsHeldValue s.value → AddsRecord y s behind (Ok tt) new → ServerFits y → ServerFits new
 adds-fits y s behind new valued (may, is) f =
     let within : count_of s.value ≤ s.count = may.2.within in
     let limit : s.count ≤ element_limit = may.2.limit in

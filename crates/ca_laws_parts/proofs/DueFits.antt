@@ -11,16 +11,19 @@ use Rattle.ca_dbr.specs.declared.data_type.DataType.{DataType}
 use Rattle.ca_dbr.specs.declared.data_type.Form.{Form}
 use Rattle.ca_dbr.specs.declared.data_type.Form.TheVariants as form
 use Rattle.ca_dbr.specs.declared.value.Meta.{Meta}
-use Rattle.ca_dbr.specs.Elements.{Elements, IsValue, base_of, count_of}
+use Rattle.ca_dbr.specs.Elements.{Elements, base_of, count_of}
+use Rattle.ca_dbr.specs.Held.{IsHeldValue, kind_of}
 use Rattle.ca_dbr.specs.Image.{image}
 use Rattle.ca_dbr.specs.Reading.{least_size}
 use Rattle.ca_dbr.specs.Shown.{shown}
 use Rattle.ca_dbr.specs.Types.{base_number, element_size, meta_size, padding_size, size_of_image}
-use Rattle.ca_dbr.proofs.OneReading.{base_number-small, length-image}
-use Rattle.ca_dbr.proofs.Shows.{converted-counted, shown-is}
-use Rattle.ca_dbr.proofs.Valued.{converted-valued, shown-valued}
+use Rattle.ca_dbr.proofs.OneReading.{base_number-small}
+use Rattle.ca_dbr.proofs.Helds.{length-held, shown-held}
+use Rattle.ca_dbr.proofs.Shows.{shown-is}
 use Rattle.ca_queue.specs.Keys.{is_among}
 use Rattle.ca_records.specs.Faults.{first_fault, has_misfit, lacks_conversion, late_put_fault}
+use Rattle.ca_records.specs.Given.{given_as}
+use Rattle.ca_records.proofs.Givens.{given-counted, given-held}
 use Rattle.ca_records.specs.Record.{RecordState}
 use Rattle.ca_records.specs.Rules.{Rule, may_read, may_write, rule_bits}
 use Rattle.ca_text.specs.declared.command.Command.TheVariants as command
@@ -86,10 +89,10 @@ small-image t n few = by t.base t.form
     by base.Double form.Time = omega (arith, few)
 
 -- the image of what a reader is shown of a value
-pub shown-payload : (v : Elements) (t : DataType) (n : ℕ) (e : Elements) (meta : Meta) → IsValue v → n ≤ element_limit → shown v n t.base ≡ Ok e → (count_of e ≡ n) × (length (image t e meta) ≤ payload_limit)
+pub shown-payload : (v : Elements) (t : DataType) (n : ℕ) (e : Elements) (meta : Meta) → IsHeldValue v → n ≤ element_limit → shown v n t.base ≡ Ok e → (count_of e ≡ n) × (length (image t e meta) ≤ payload_limit)
 shown-payload v t n e meta valued few is =
     let s = shown-is v n t.base e is in
-    let len : length (image t e meta) ≡ size_of_image t n = length-image t e meta (sym s.0) (shown-valued v n t.base e valued is) ∙ ap (λ (k : ℕ). size_of_image t k) s.1 in
+    let len : length (image t e meta) ≡ size_of_image t n = length-held t e meta (sym s.0) (shown-held v n t.base e valued is) ∙ ap (λ (k : ℕ). size_of_image t k) s.1 in
     (s.1, subst (λ (k : ℕ). k ≤ payload_limit) (sym len) (small-image t n few))
 
 -- that of one element at least has a byte
@@ -105,10 +108,10 @@ size-some t n some = by t.base (meta_size t.form + padding_size t.form t.base)
     by base.Long k = omega (arith, some)
     by base.Double k = omega (arith, some)
 
-pub shown-some : (v : Elements) (t : DataType) (n : ℕ) (e : Elements) (meta : Meta) → IsValue v → 0 < n → shown v n t.base ≡ Ok e → 0 < length (image t e meta)
+pub shown-some : (v : Elements) (t : DataType) (n : ℕ) (e : Elements) (meta : Meta) → IsHeldValue v → 0 < n → shown v n t.base ≡ Ok e → 0 < length (image t e meta)
 shown-some v t n e meta valued some is =
     let s = shown-is v n t.base e is in
-    let len : length (image t e meta) ≡ size_of_image t n = length-image t e meta (sym s.0) (shown-valued v n t.base e valued is) ∙ ap (λ (k : ℕ). size_of_image t k) s.1 in
+    let len : length (image t e meta) ≡ size_of_image t n = length-held t e meta (sym s.0) (shown-held v n t.base e valued is) ∙ ap (λ (k : ℕ). size_of_image t k) s.1 in
     subst (λ (k : ℕ). 0 < k) (sym len) (size-some t n some)
 
 pub blank-some : (t : DataType) (n : ℕ) → 0 < n → 0 < length {A = ℕ} (replicate (size_of_image t n) 0)
@@ -127,7 +130,7 @@ early_faults r rights m b =
 
 abbrev late_faults : RecordState → Bool → ℕ → Elements → List (Bool × ℕ)
 late_faults r waits others e =
-    (lacks_conversion (converted e (base_of r.value)), no_convert) ∷ (has_misfit (converted e (base_of r.value)), put_fail) ∷ (cond waits (not (nat_lt others waiting_puts)) false, put_fail) ∷ []
+    (lacks_conversion (given_as e (kind_of r.value)), no_convert) ∷ (has_misfit (given_as e (kind_of r.value)), put_fail) ∷ (cond waits (not (nat_lt others waiting_puts)) false, put_fail) ∷ []
 
 abbrev event_faults : RecordState → (rights others : ℕ) → Bool → Fields → DataType → List (Bool × ℕ)
 event_faults r rights others used m t =
@@ -352,11 +355,12 @@ module _ (k : Knows) (m : Fields) (replies : List Fields) (did : Action) (f : Kn
   taken-fits : (c : Serves k m.p1) (value : Elements) → PutTaken k m c value → ValueFits value
   taken-fits c value taken =
       let r : RecordState = c.known.state in
-      let le : r.count ≤ element_limit = (f.records c.channel.name c.known c.named).0 in
+      let known = f.records c.channel.name c.known c.named in
+      let le : r.count ≤ element_limit = known.0 in
       let few : m.count ≤ r.count = put-few r (rights_at k c.channel.name) m (base_type_of m.data_type) taken.early in
-      let count : count_of value ≡ m.count = converted-counted taken.elements (base_of r.value) value taken.is ∙ taken.reads.reads.counted in
+      let count : count_of value ≡ m.count = given-counted taken.elements (kind_of r.value) value taken.is ∙ taken.reads.reads.counted in
       let some : 0 < m.count = put-some r (rights_at k c.channel.name) m (base_type_of m.data_type) taken.early in
-      (converted-valued taken.elements (base_of r.value) value taken.reads.reads.valued taken.is, omega (arith, count, some), omega (arith, count, few, le))
+      (given-held taken.elements r.value value taken.reads.reads.valued known.1.0 taken.is, omega (arith, count, some), omega (arith, count, few, le))
 
   write-fits : IsSo → Whenever 4
   write-fits due e = elim (due.write e) [

@@ -2,9 +2,9 @@
 use Rattle.std.proofs.Common.{◌≡◌, ℕ, ◌⊎◌, inl, inr, Bool, false, List, length, Ok, Option, Some, sym, ap, subst, ◌∙◌}
 use Rattle.ca_text.specs.Place.{At}
 use Rattle.ca_text.proofs.Places.{At-map, At-one}
-use Rattle.ca_dbr.specs.Conversion.{converted}
 use Rattle.ca_dbr.specs.Elements.{Elements}
 use Rattle.ca_records.specs.declared.puts.Put.{Put}
+use Rattle.ca_records.specs.Given.{given_as}
 use Rattle.ca_records.specs.Puts.{Record}
 use Rattle.ca_model.specs.Speech.{Stored, sid_in}
 use Rattle.ca_model.specs.History.{Applied, Circuit, Entry, Finished, Sent, Step, Withdrawn}
@@ -196,7 +196,7 @@ own-message w logs n k l i r v a =
       reads = x.1.reads;
       to = there.0.0;
       there = (there.0.1, there.1);
-      value = subst (λ (b : _). converted x.1.given b ≡ Ok v.value) there.0.2 x.1.is;
+      value = subst (λ (b : _). given_as x.1.given b ≡ Ok v.value) there.0.2 x.1.is;
       came = how x.1.c x.1.on;
     }
   where

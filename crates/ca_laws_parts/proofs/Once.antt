@@ -2,7 +2,8 @@
 use Rattle.std.proofs.Common.{◌≡◌, ℕ, ◌<◌, ◌≤◌, ◌⊎◌, inl, inr, true, List, [], ◌∷◌, ◌++◌, length, take, refl, sym, ap, subst, ◌∙◌, arith}
 use Rattle.ca_text.specs.Place.{At}
 use Rattle.ca_text.proofs.Places.{At-append, At-back, At-snoc, At-within}
-use Rattle.ca_dbr.specs.Elements.{Elements, base_of}
+use Rattle.ca_dbr.specs.Elements.{Elements}
+use Rattle.ca_dbr.specs.Held.{kind_of}
 use Rattle.ca_records.specs.Record.{RecordState}
 use Rattle.ca_model.specs.Speech.{In}
 use Rattle.ca_model.specs.History.{Circuit, Entry, Added, Applied, Finished, Removed, Waits, Withdrawn}
@@ -65,8 +66,8 @@ module _ (Came : (Circuit → (k i : ℕ) → Type 0) → PutPlace → (i : ℕ)
           ]
         ];
         there = λ i n k r v b p. elim (At-snoc y e i (Applied n k r v b) p) [
-          | inl old ↦ subst (λ (l : List Entry). ((s : RecordState) × In l (Added r s) × (base_of v.value ≡ base_of s.value)) × (In l (Removed r) → ⊥)) (sym (taken-same y e i (At-within y i (Applied n k r v b) old))) (once.there i n k r v b old)
-          | inr new ↦ (let m = it (Applied n k r v b) new.1 in subst (λ (l : List Entry). ((s : RecordState) × In l (Added r s) × (base_of v.value ≡ base_of s.value)) × (In l (Removed r) → ⊥)) (sym (taken-all y e i new.0)) (m.2, m.3))
+          | inl old ↦ subst (λ (l : List Entry). ((s : RecordState) × In l (Added r s) × (kind_of v.value ≡ kind_of s.value)) × (In l (Removed r) → ⊥)) (sym (taken-same y e i (At-within y i (Applied n k r v b) old))) (once.there i n k r v b old)
+          | inr new ↦ (let m = it (Applied n k r v b) new.1 in subst (λ (l : List Entry). ((s : RecordState) × In l (Added r s) × (kind_of v.value ≡ kind_of s.value)) × (In l (Removed r) → ⊥)) (sym (taken-all y e i new.0)) (m.2, m.3))
         ];
         own = λ i n k r v b p. elim (At-snoc y e i (Applied n k r v b) p) [
           | inl old ↦ elim (once.own i n k r v b old) [

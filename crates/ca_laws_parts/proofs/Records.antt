@@ -7,7 +7,8 @@ use Rattle.std.proofs.lemmas.List.Sums.{fold-append}
 use Rattle.ca_text.specs.Place.{At}
 use Rattle.ca_text.proofs.Places.{some_is, At-mapped, At-parts, At-snoc}
 use Rattle.ca_dbr.specs.declared.value.Meta.{Meta}
-use Rattle.ca_dbr.specs.Elements.{Elements, base_of}
+use Rattle.ca_dbr.specs.Elements.{Elements}
+use Rattle.ca_dbr.specs.Held.{kind_of}
 use Rattle.ca_records.specs.declared.puts.Put.{Put}
 use Rattle.ca_records.specs.Puts.{Record, WaitingPut, new_record, with_value, with_waiting, without_puts}
 use Rattle.ca_records.specs.Record.{RecordState}
@@ -165,7 +166,7 @@ module _ (Is : PutPlace → Put → Type 0) where
   still-there y e r other there h = elim (In-snoc y e (Removed r) h) [ inl old ↦ there old | inr new ↦ other new ]
 
   -- A post, or a write that does not make it busy: the record has its value now.
-  pub agrees-posted : (y : List Entry) (c : Record) (r : RecordSide) (mask : ℕ) (v : Stored) → base_of v.value ≡ base_of c.state.value → Agrees Is y c r → Agrees Is (y ++ Posted r.number mask v ∷ []) (with_value v.value v.meta c) r
+  pub agrees-posted : (y : List Entry) (c : Record) (r : RecordSide) (mask : ℕ) (v : Stored) → kind_of v.value ≡ kind_of c.state.value → Agrees Is y c r → Agrees Is (y ++ Posted r.number mask v ∷ []) (with_value v.value v.meta c) r
   agrees-posted y c r mask v same a =
       let e : Entry = Posted r.number mask v in
       record {
@@ -191,7 +192,7 @@ module _ (Is : PutPlace → Put → Type 0) where
     kept = λ is. (let x : Withdrawn q.circuit q.place ≡ Applied p.circuit p.place r v b = is in cc);
   }
 
-  pub agrees-applied : (y : List Entry) (c : Record) (r : RecordSide) (p : PutPlace) (v : Stored) → base_of v.value ≡ base_of c.state.value → (In r.waiting p → ⊥) → Agrees Is y c r → Agrees Is (y ++ Applied p.circuit p.place r.number v false ∷ []) (with_value v.value v.meta c) r
+  pub agrees-applied : (y : List Entry) (c : Record) (r : RecordSide) (p : PutPlace) (v : Stored) → kind_of v.value ≡ kind_of c.state.value → (In r.waiting p → ⊥) → Agrees Is y c r → Agrees Is (y ++ Applied p.circuit p.place r.number v false ∷ []) (with_value v.value v.meta c) r
   agrees-applied y c r p v same new a =
       let e : Entry = Applied p.circuit p.place r.number v false in
       record {
@@ -212,7 +213,7 @@ module _ (Is : PutPlace → Put → Type 0) where
       }
 
   -- A put makes an idle record busy: one that waits for nothing, or the first that waits.
-  pub agrees-busied : (y : List Entry) (s : RecordState) (b : Put) (ws : List WaitingPut) (name : List ℕ) (number : ℕ) (p : PutPlace) (ps : List PutPlace) (v : Stored) → base_of v.value ≡ base_of s.value → (In ps p → ⊥) → (IsFinished y p → ⊥) → Is p b → s.slow ≡ true → Agrees Is y (record { state = s; busy = None; waiting = ws }) (record { name = name; number = number; busy = None; waiting = ps }) → Agrees Is (y ++ Applied p.circuit p.place number v true ∷ []) (record { state = record s { value = v.value; meta = v.meta }; busy = Some b; waiting = ws }) (record { name = name; number = number; busy = Some p; waiting = ps })
+  pub agrees-busied : (y : List Entry) (s : RecordState) (b : Put) (ws : List WaitingPut) (name : List ℕ) (number : ℕ) (p : PutPlace) (ps : List PutPlace) (v : Stored) → kind_of v.value ≡ kind_of s.value → (In ps p → ⊥) → (IsFinished y p → ⊥) → Is p b → s.slow ≡ true → Agrees Is y (record { state = s; busy = None; waiting = ws }) (record { name = name; number = number; busy = None; waiting = ps }) → Agrees Is (y ++ Applied p.circuit p.place number v true ∷ []) (record { state = record s { value = v.value; meta = v.meta }; busy = Some b; waiting = ws }) (record { name = name; number = number; busy = Some p; waiting = ps })
   agrees-busied y s b ws name number p ps v same new fresh is_it slow a =
       let e : Entry = Applied p.circuit p.place number v true in
       record {
@@ -232,7 +233,7 @@ module _ (Is : PutPlace → Put → Type 0) where
         slow = λ d e. slow;
       }
 
-  pub agrees-next : (y : List Entry) (s : RecordState) (w : WaitingPut) (ws : List WaitingPut) (name : List ℕ) (number : ℕ) (p : PutPlace) (ps : List PutPlace) (meta : Meta) → base_of w.value ≡ base_of s.value → (IsFinished y p → ⊥) → s.slow ≡ true → Agrees Is y (record { state = s; busy = None; waiting = w ∷ ws }) (record { name = name; number = number; busy = None; waiting = p ∷ ps }) → Agrees Is (y ++ Applied p.circuit p.place number (record { value = w.value; meta = meta }) true ∷ []) (record { state = record s { value = w.value; meta = meta }; busy = Some w.put; waiting = ws }) (record { name = name; number = number; busy = Some p; waiting = ps })
+  pub agrees-next : (y : List Entry) (s : RecordState) (w : WaitingPut) (ws : List WaitingPut) (name : List ℕ) (number : ℕ) (p : PutPlace) (ps : List PutPlace) (meta : Meta) → kind_of w.value ≡ kind_of s.value → (IsFinished y p → ⊥) → s.slow ≡ true → Agrees Is y (record { state = s; busy = None; waiting = w ∷ ws }) (record { name = name; number = number; busy = None; waiting = p ∷ ps }) → Agrees Is (y ++ Applied p.circuit p.place number (record { value = w.value; meta = meta }) true ∷ []) (record { state = record s { value = w.value; meta = meta }; busy = Some w.put; waiting = ws }) (record { name = name; number = number; busy = Some p; waiting = ps })
   agrees-next y s w ws name number p ps meta same fresh slow a =
       let v : Stored = record { value = w.value; meta = meta } in
       let e : Entry = Applied p.circuit p.place number v true in
@@ -275,7 +276,7 @@ module _ (Is : PutPlace → Put → Type 0) where
       }
 
   -- A put comes to wait after the others.
-  pub agrees-waits : (y : List Entry) (c : Record) (r : RecordSide) (p : PutPlace) (w : WaitingPut) (v : Stored) → v.value ≡ w.value → base_of w.value ≡ base_of c.state.value → IsUntold y p → Is p w.put → Agrees Is y c r → Agrees Is (y ++ Waits p.circuit p.place r.number v ∷ []) (with_waiting w c) (record r { waiting = r.waiting ++ p ∷ [] })
+  pub agrees-waits : (y : List Entry) (c : Record) (r : RecordSide) (p : PutPlace) (w : WaitingPut) (v : Stored) → v.value ≡ w.value → kind_of w.value ≡ kind_of c.state.value → IsUntold y p → Is p w.put → Agrees Is y c r → Agrees Is (y ++ Waits p.circuit p.place r.number v ∷ []) (with_waiting w c) (record r { waiting = r.waiting ++ p ∷ [] })
   agrees-waits y c r p w v same fits fresh is_it a =
       let e : Entry = Waits p.circuit p.place r.number v in
       let new : In r.waiting p → ⊥ = λ h. (let there = beside-left (WaitsAs Is y r.number) r.waiting c.waiting h.0 p a.each h.1 in fresh (Waits p.circuit p.place r.number there.2.0.v) there.2.0.came refl) in
@@ -313,7 +314,7 @@ module _ (Is : PutPlace → Put → Type 0) where
         apart = apart-front r.waiting p a.apart new;
         based = λ i u at. elim (At-snoc c.waiting w i u at) [
           | inl old ↦ a.based i u old
-          | inr is ↦ ap (λ (z : WaitingPut). base_of z.value) is.1 ∙ fits ∙ a.base
+          | inr is ↦ ap (λ (z : WaitingPut). kind_of z.value) is.1 ∙ fits ∙ a.base
         ];
         busy = busy-kept y r.number r.busy e (record { no_other = λ n k u is. (let x : Applied n k r.number u true ≡ Waits p.circuit p.place r.number v = is in cc); not_it = λ q b is. (let x : Finished q.circuit q.place ≡ Waits p.circuit p.place r.number v = is in cc) }) a.busy;
         busy_as = a.busy_as;

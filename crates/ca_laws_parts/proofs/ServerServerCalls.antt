@@ -14,7 +14,8 @@ use Rattle.ca_text.specs.Place.{At}
 use Rattle.ca_text.proofs.Places.{At-mapped, some_is}
 use Rattle.ca_arena.specs.declared.handle.Handle.{Handle}
 use Rattle.ca_arena.specs.Arena.{Place}
-use Rattle.ca_dbr.specs.Elements.{IsValue, count_of}
+use Rattle.ca_dbr.specs.Elements.{count_of}
+use Rattle.ca_dbr.specs.Held.{IsHeldValue}
 use Rattle.ca_ids.specs.Table.{Table, same_handle, under}
 use Rattle.ca_records.specs.Puts.{Record, with_record, with_value}
 use Rattle.ca_records.specs.Record.{RecordState}
@@ -307,7 +308,7 @@ module _ (c : Handle) (y new : Server) (k : Conduct) (known : Known c y k) where
 
   -- ---- posts
 
-  post-then : (name : List ℕ) (v : Stored) (mask : ℕ) (gone : Handle → Bool) (answer : Result (Unit {0}) Refusal) (d : Did) → IsValue v.value → Posts y name v mask gone answer new → d ≡ nothing → Then c new d k
+  post-then : (name : List ℕ) (v : Stored) (mask : ℕ) (gone : Handle → Bool) (answer : Result (Unit {0}) Refusal) (d : Did) → IsHeldValue v.value → Posts y name v mask gone answer new → d ≡ nothing → Then c new d k
   post-then name v mask gone (Ok _) d valued does is =
       quiet-then c y new k d known is (subst ServerFits (sym does.2) (posted-fits stored known-stored))
       (subst (λ (z : Server). Carries c y z) (sym does.2) (carries-then c y stored (after_post name mask v gone stored) (carries-same c y stored refl) (carries-post c name mask v gone stored)))
@@ -373,7 +374,7 @@ module _ (c : Handle) (y new : Server) (k : Conduct) (known : Known c y k) where
   beacon-then now None d does is = alike-then d is (ap (λ (z : Server). z.port) does.1) (ap (λ (z : Server). z.records) does.1) (ap (λ (z : Server). z.circuits) does.1)
   beacon-then now (Some bytes) d does is = alike-then d is (ap (λ (z : Server). z.port) does.2) (ap (λ (z : Server). z.records) does.2) (ap (λ (z : Server). z.circuits) does.2)
 
-  add-then : (s : RecordState) (behind : ℕ) (answer : Result (Unit {0}) Refusal) (d : Did) → IsValue s.value → calls.AddsRecord y s behind answer new → d ≡ nothing → Then c new d k
+  add-then : (s : RecordState) (behind : ℕ) (answer : Result (Unit {0}) Refusal) (d : Did) → IsHeldValue s.value → calls.AddsRecord y s behind answer new → d ≡ nothing → Then c new d k
   add-then s behind (Ok _) d valued does is =
       quiet-then c y new k d known is (adds-fits y s behind new valued does known.fits) (carries-same c y new (ap (λ (z : Server). z.circuits) does.1))
   add-then s behind (Err refusal.OutOfMemory) d valued does is = same-then d is does.1

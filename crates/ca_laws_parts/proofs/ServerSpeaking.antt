@@ -5,7 +5,8 @@ use Rattle.std.specs.Prelude.{Ok, Result, filter, map, option_map, slice_get, sl
 use Rattle.std.specs.Str.{bytes_eq}
 use Rattle.std.proofs.lemmas.List.{append-nil}
 use Rattle.ca_arena.specs.declared.handle.Handle.{Handle}
-use Rattle.ca_dbr.specs.Elements.{Elements, IsValue}
+use Rattle.ca_dbr.specs.Elements.{Elements}
+use Rattle.ca_dbr.specs.Held.{IsHeldValue}
 use Rattle.ca_ids.specs.Table.{under}
 use Rattle.ca_ids.specs.Wire.{wire_of}
 use Rattle.ca_queue.specs.declared.entry.SubKey.{SubKey}
@@ -242,7 +243,7 @@ module _ (w new : World) (i : ℕ) (y : ServerSide) (at : At w.servers i y) (f :
   own-fits : ServerFits y.core
   own-fits = f.cores i y at
 
-  post-servers : (name : List ℕ) (e : Elements) (mask : ℕ) → IsValue e → HappensPost w i y name e mask new → ServersFit new
+  post-servers : (name : List ℕ) (e : Elements) (mask : ℕ) → IsHeldValue e → HappensPost w i y name e mask new → ServersFit new
   post-servers name e mask valued (gone, core, inr refused) = subst (λ (v : World). ServersFit v) (sym refused.3) f
   post-servers name e mask valued (gone, core, inl (posts, is)) =
       let mid : World = with_entries y.life _ (record w { circuits = map (numbers_posted i y.core name mask) w.circuits }) in
@@ -288,7 +289,7 @@ module _ (w new : World) (i : ℕ) (y : ServerSide) (at : At w.servers i y) (f :
           )
           go false = no-more c c refl
 
-  add-servers : (r : RecordState) → IsValue r.value → HappensAdd w i y r new → ServersFit new
+  add-servers : (r : RecordState) → IsHeldValue r.value → HappensAdd w i y r new → ServersFit new
   add-servers r valued (core, behind, inr refused) = subst (λ (v : World). ServersFit v) (sym refused.3) f
   add-servers r valued (core, behind, inl (adds, is)) =
       let fit = adds-fits y.core r behind core valued adds own-fits in

@@ -5,9 +5,10 @@ use Rattle.ca_arena.specs.declared.handle.Handle.{Handle}
 use Rattle.ca_text.specs.declared.command.Command.TheVariants as command
 use Rattle.ca_text.specs.Place.{At}
 use Rattle.ca_text.proofs.Places.{some_is, At-one}
-use Rattle.ca_dbr.specs.Conversion.{converted}
-use Rattle.ca_dbr.specs.Elements.{Elements, base_of}
-use Rattle.ca_dbr.proofs.Shows.{converted-based}
+use Rattle.ca_dbr.specs.Elements.{Elements}
+use Rattle.ca_dbr.specs.Held.{kind_of}
+use Rattle.ca_records.specs.Given.{given_as}
+use Rattle.ca_records.proofs.Givens.{given-kind}
 use Rattle.ca_ids.specs.Table.{held, same_handle}
 use Rattle.ca_ids.specs.Wire.{wire_of}
 use Rattle.ca_records.specs.declared.puts.Put.{Put}
@@ -81,7 +82,7 @@ module _ (N : List Joined) (i life : ℕ) (log : List Entry) (rs : List RecordSi
     writes = writes;
     given = to.given;
     reads = to.reads;
-    is = ap (λ (b : _). converted to.given b) (converted-based to.given (base_of to.known.state.value) value to.is) ∙ to.is;
+    is = ap (λ (b : _). given_as to.given b) (given-kind to.given (kind_of to.known.state.value) value to.is) ∙ to.is;
     taken = t.taken;
   }
 
@@ -89,7 +90,7 @@ module _ (N : List Joined) (i life : ℕ) (log : List Entry) (rs : List RecordSi
   pub record Written (name : List ℕ) (value : Elements) : Type 0 where
     pub c : Record
     pub f : Found (IsPutOf N i) log old.records rs name c
-    pub base : base_of value ≡ base_of c.state.value
+    pub base : kind_of value ≡ kind_of c.state.value
     pub number : number_of name rs ≡ f.r.number
 
   written : (name : List ℕ) (value : Elements) (to : WritesTo (knows old e) s.message name value) → (w : Written name value) × (known_record w.c ≡ to.known)
@@ -99,7 +100,7 @@ module _ (N : List Joined) (i life : ℕ) (log : List Entry) (rs : List RecordSi
         record {
           c = k.0;
           f = f;
-          base = converted-based to.given (base_of to.known.state.value) value to.is ∙ ap (λ (x : KnownRecord). base_of x.state.value) (sym k.2);
+          base = given-kind to.given (kind_of to.known.state.value) value to.is ∙ ap (λ (x : KnownRecord). kind_of x.state.value) (sym k.2);
           number = ap (λ (m : List ℕ). number_of m rs) (sym f.named) ∙ number-of rs f.i f.r a.others f.in_rs;
         },
         k.2,

@@ -7,7 +7,7 @@ use Rattle.std.proofs.lemmas.Slice.Eq.{bytes_eq-Decides}
 use Rattle.ca_arena.specs.declared.handle.Handle.{Handle}
 use Rattle.ca_text.specs.Place.{At}
 use Rattle.ca_text.proofs.Places.{some_is, At-append, At-last, At-snoc, At-map, At-mapped, At-one, At-parts, At-set, At-set-other, At-within}
-use Rattle.ca_dbr.specs.Elements.{base_of}
+use Rattle.ca_dbr.specs.Held.{kind_of}
 use Rattle.ca_ids.specs.Table.{same_handle, under}
 use Rattle.ca_queue.specs.declared.entry.SubKey.{SubKey}
 use Rattle.ca_records.specs.declared.puts.Put.{Put}
@@ -176,7 +176,7 @@ midway-nothing w i y at h =
 
 -- ---- a post
 
-pub midway-post : (w : World) (i : ℕ) (y : ServerSide) (name : List ℕ) (v : Stored) (mask : ℕ) (c : Record) (at : At w.servers i y) (h : Writes w) → record_named y.core.records name ≡ Some c → base_of v.value ≡ base_of c.state.value
+pub midway-post : (w : World) (i : ℕ) (y : ServerSide) (name : List ℕ) (v : Stored) (mask : ℕ) (c : Record) (at : At w.servers i y) (h : Writes w) → record_named y.core.records name ≡ Some c → kind_of v.value ≡ kind_of c.state.value
     → Midway w (with_entries y.life (posted_entry y name v mask) (record w { circuits = map (numbers_posted i y.core name mask) w.circuits })) i y y (h.lives i y at).log (posted_entry y name v mask) (with_record name (with_value v.value v.meta) y.core.records)
 midway-post w i y name v mask c at h named base =
     let own = h.lives i y at in

@@ -3,7 +3,8 @@ use Rattle.std.proofs.Common.{◌≡◌, ℕ, ◌<◌, inl, inr, true, List, [],
 use Rattle.std.specs.Prelude.{slice_get}
 use Rattle.ca_text.specs.Place.{At}
 use Rattle.ca_text.proofs.Places.{At-one, At-within}
-use Rattle.ca_dbr.specs.Elements.{Elements, base_of}
+use Rattle.ca_dbr.specs.Elements.{Elements}
+use Rattle.ca_dbr.specs.Held.{kind_of}
 use Rattle.ca_records.specs.declared.puts.Put.{Put}
 use Rattle.ca_records.specs.Puts.{Record, WaitingPut, finished, with_record, written_meta}
 use Rattle.ca_records.specs.Record.{RecordState}
@@ -45,7 +46,7 @@ waits-unfinished Came Lost y r p v once w h =
 
 module _ (Is : PutPlace → Put → Type 0) where
   -- the record whose put was finished, and whose next was applied
-  one-finished : (y : List Entry) (side : ServerSide) (s : RecordState) (b : Option Put) (ws : List WaitingPut) (name : List ℕ) (number : ℕ) (p : PutPlace) (ps : List PutPlace) → ((q : PutPlace) → In ps q → IsFinished y q → ⊥) → ((q : PutPlace) (qs : List PutPlace) → ps ≡ q ∷ qs → q ≡ p → ⊥) → ((i : ℕ) (w : WaitingPut) → At ws i w → base_of w.value ≡ base_of s.value) → s.slow ≡ true
+  one-finished : (y : List Entry) (side : ServerSide) (s : RecordState) (b : Option Put) (ws : List WaitingPut) (name : List ℕ) (number : ℕ) (p : PutPlace) (ps : List PutPlace) → ((q : PutPlace) → In ps q → IsFinished y q → ⊥) → ((q : PutPlace) (qs : List PutPlace) → ps ≡ q ∷ qs → q ≡ p → ⊥) → ((i : ℕ) (w : WaitingPut) → At ws i w → kind_of w.value ≡ kind_of s.value) → s.slow ≡ true
       → let c : Record = record { state = s; busy = b; waiting = ws } in let r : RecordSide = record { name = name; number = number; busy = Some p; waiting = ps } in Agrees Is y c r → Agrees Is (y ++ finish_entry p ∷ next_entries side r (first_of ws) (first_of ps)) (finished side.core.stamp c ws) (next_busy r)
   one-finished y side s b [] name number p [] free other based slow a = agrees-finished Is y s b [] name number p [] a
   one-finished y side s b [] name number p (q ∷ ps) free other based slow a = absurd a.each
@@ -75,7 +76,7 @@ module _ (Came : (Circuit → (k i : ℕ) → Type 0) → PutPlace → (i : ℕ)
   may-finish y r p b =
       ((b.i, r, b.v, b.at, At-within y b.i (Applied p.circuit p.place r b.v true) b.at, λ j m l u lt below at. b.last j m l u lt at), b.unfinished)
 
-  may-next : (y : List Entry) (c : Record) (r : RecordSide) (p q : PutPlace) (value : Elements) (w : StillWaits y r.number q value) (v : Stored) → v.value ≡ value → base_of v.value ≡ base_of c.state.value → Agrees Is y c r → MayTell Came Lost (y ++ finish_entry p ∷ []) (Applied q.circuit q.place r.number v true)
+  may-next : (y : List Entry) (c : Record) (r : RecordSide) (p q : PutPlace) (value : Elements) (w : StillWaits y r.number q value) (v : Stored) → v.value ≡ value → kind_of v.value ≡ kind_of c.state.value → Agrees Is y c r → MayTell Came Lost (y ++ finish_entry p ∷ []) (Applied q.circuit q.place r.number v true)
   may-next y c r p q value w v is same a =
       let e : Entry = finish_entry p in
       let still : StillWaits (y ++ e ∷ []) r.number q value = still-waits y e r.number q value (record { unapplied = λ i u d h. (let x : Applied q.circuit q.place i u d ≡ Finished p.circuit p.place = h in cc); kept = λ h. (let x : Withdrawn q.circuit q.place ≡ Finished p.circuit p.place = h in cc) }) w in (
@@ -90,7 +91,7 @@ module _ (Came : (Circuit → (k i : ℕ) → Type 0) → PutPlace → (i : ℕ)
       )
 
   -- the log after a finish
-  once-finished : (y : List Entry) (side : ServerSide) (c : Record) (r : RecordSide) (p : PutPlace) (ws : List WaitingPut) (ps : List PutPlace) → IsBusyWith y r.number p → Both (WaitsAs Is y r.number) ps ws → ((j : ℕ) (w : WaitingPut) → At ws j w → base_of w.value ≡ base_of c.state.value) → Agrees Is y c r → Once Came Lost y → Once Came Lost (y ++ finish_entry p ∷ next_entries side r (first_of ws) (first_of ps))
+  once-finished : (y : List Entry) (side : ServerSide) (c : Record) (r : RecordSide) (p : PutPlace) (ws : List WaitingPut) (ps : List PutPlace) → IsBusyWith y r.number p → Both (WaitsAs Is y r.number) ps ws → ((j : ℕ) (w : WaitingPut) → At ws j w → kind_of w.value ≡ kind_of c.state.value) → Agrees Is y c r → Once Came Lost y → Once Came Lost (y ++ finish_entry p ∷ next_entries side r (first_of ws) (first_of ps))
   once-finished y side c r p [] [] busy each based a once = once-told Came Lost y (finish_entry p) once (may-finish y r.number p busy)
   once-finished y side c r p [] (q ∷ ps) busy each based a once = absurd each
   once-finished y side c r p (w ∷ ws) [] busy each based a once = absurd each
@@ -126,7 +127,7 @@ module _ (Came : (Circuit → (k i : ℕ) → Type 0) → PutPlace → (i : ℕ)
       let more : List Entry = y ++ finish_entry p ∷ next_entries side r (first_of c.waiting) (first_of r.waiting) in
       let g : Agrees Is y c r = both-at (Agrees Is y) cs rs i c r a.each in_cs in_rs in
       let by : IsBusyWith y r.number p = busy-with y c g in
-      let based : (j : ℕ) (w : WaitingPut) → At c.waiting j w → base_of w.value ≡ base_of c.state.value = λ j w at. g.based j w at ∙ sym g.base in
+      let based : (j : ℕ) (w : WaitingPut) → At c.waiting j w → kind_of w.value ≡ kind_of c.state.value = λ j w at. g.based j w at ∙ sym g.base in
       let own : (q : PutPlace) → In r.waiting q → IsFinished y q → ⊥ = λ q h. (let w = waits-there Is y c r q g h in waits-unfinished Came Lost y r.number q w.0.value a.once w.1) in
       record {
         once = once-finished y side c r p c.waiting r.waiting by g.each based g a.once;
@@ -158,6 +159,6 @@ module _ (Came : (Circuit → (k i : ℕ) → Type 0) → PutPlace → (i : ℕ)
       was-slow : (c : Record) → Agrees Is y c r → c.state.slow ≡ true
       was-slow c g = (let b = some-busy c.busy (subst (λ (o : Option PutPlace). IsBusyAs Is o c.busy) busy g.busy_as) in g.slow b.0 b.1)
 
-      own-record : (c : Record) → Agrees Is y c r → ((q : PutPlace) → In r.waiting q → IsFinished y q → ⊥) → ((j : ℕ) (w : WaitingPut) → At c.waiting j w → base_of w.value ≡ base_of c.state.value) → ((q : PutPlace) (qs : List PutPlace) → r.waiting ≡ q ∷ qs → q ≡ p → ⊥) → Agrees Is (y ++ finish_entry p ∷ next_entries side r (first_of c.waiting) (first_of r.waiting)) (finished side.core.stamp c c.waiting) (next_busy r)
+      own-record : (c : Record) → Agrees Is y c r → ((q : PutPlace) → In r.waiting q → IsFinished y q → ⊥) → ((j : ℕ) (w : WaitingPut) → At c.waiting j w → kind_of w.value ≡ kind_of c.state.value) → ((q : PutPlace) (qs : List PutPlace) → r.waiting ≡ q ∷ qs → q ≡ p → ⊥) → Agrees Is (y ++ finish_entry p ∷ next_entries side r (first_of c.waiting) (first_of r.waiting)) (finished side.core.stamp c c.waiting) (next_busy r)
       own-record c g own based other =
           one-finished Is y side c.state c.busy c.waiting r.name r.number p r.waiting own other based (was-slow c g) (subst (λ (o : Option PutPlace). Agrees Is y c (record r { busy = o })) busy g)

@@ -6,7 +6,8 @@ use Rattle.std.proofs.lemmas.Slice.Eq.{bytes_eq-Decides}
 use Rattle.ca_text.specs.Place.{At}
 use Rattle.ca_text.proofs.Places.{some_is, At-one}
 use Rattle.ca_dbr.specs.declared.value.Meta.{Meta}
-use Rattle.ca_dbr.specs.Elements.{Elements, base_of}
+use Rattle.ca_dbr.specs.Elements.{Elements}
+use Rattle.ca_dbr.specs.Held.{kind_of}
 use Rattle.ca_records.specs.declared.puts.Put.{Put}
 use Rattle.ca_records.specs.Puts.{Record, WaitingPut, with_record, with_value, with_waiting}
 use Rattle.ca_model.specs.Speech.{In, Stored}
@@ -150,7 +151,7 @@ module _ (Came : (Circuit → (k i : ℕ) → Type 0) → PutPlace → (i : ℕ)
 
   -- a write may be told as applied to a record that is there, if nothing was told of
   -- it, or it waits there
-  may-apply : (y : List Entry) (c : Record) (r : RecordSide) (p : PutPlace) (v : Stored) (b : Bool) → base_of v.value ≡ base_of c.state.value → IsUntold y p → Agrees Is y c r → Came IsTaken p (length y) v.value → MayTell Came Lost y (Applied p.circuit p.place r.number v b)
+  may-apply : (y : List Entry) (c : Record) (r : RecordSide) (p : PutPlace) (v : Stored) (b : Bool) → kind_of v.value ≡ kind_of c.state.value → IsUntold y p → Agrees Is y c r → Came IsTaken p (length y) v.value → MayTell Came Lost y (Applied p.circuit p.place r.number v b)
   may-apply y c r p v b same untold a came = (
     λ h. untold (Applied p.circuit p.place h.0 h.1 h.2) h.3 refl,
     λ h. untold (Withdrawn p.circuit p.place) h refl,
@@ -160,12 +161,12 @@ module _ (Came : (Circuit → (k i : ℕ) → Type 0) → PutPlace → (i : ℕ)
   )
 
   -- A write is applied, and makes its record not busy.
-  pub agree-applied : (y : List Entry) (cs : List Record) (rs : List RecordSide) (n : ℕ) (i : ℕ) (c : Record) (r : RecordSide) (p : PutPlace) (v : Stored) → At cs i c → At rs i r → IsUntold y p → Came IsTaken p (length y) v.value → base_of v.value ≡ base_of c.state.value → Agree Came Lost Is y cs rs n → Agree Came Lost Is (y ++ Applied p.circuit p.place r.number v false ∷ []) (with_record r.name (with_value v.value v.meta) cs) rs n
+  pub agree-applied : (y : List Entry) (cs : List Record) (rs : List RecordSide) (n : ℕ) (i : ℕ) (c : Record) (r : RecordSide) (p : PutPlace) (v : Stored) → At cs i c → At rs i r → IsUntold y p → Came IsTaken p (length y) v.value → kind_of v.value ≡ kind_of c.state.value → Agree Came Lost Is y cs rs n → Agree Came Lost Is (y ++ Applied p.circuit p.place r.number v false ∷ []) (with_record r.name (with_value v.value v.meta) cs) rs n
   agree-applied y cs rs n i c r p v in_cs in_rs untold came same a =
       let e : Entry = Applied p.circuit p.place r.number v false in
       let there = beside-right (Agrees Is y) cs rs i r a.each in_rs in
       let both = one-changes Is y (y ++ e ∷ []) cs rs i r (with_value v.value v.meta) (λ (q : RecordSide). q) a.others in_rs
-      (λ d at b. agrees-applied Is y d r p v (same ∙ ap (λ (z : Record). base_of z.state.value) (At-one cs i c d in_cs at)) (untold-waits Is y d r p untold b) b)
+      (λ d at b. agrees-applied Is y d r p v (same ∙ ap (λ (z : Record). kind_of z.state.value) (At-one cs i c d in_cs at)) (untold-waits Is y d r p untold b) b)
       (λ j d q at other b. agrees-spared Is y d q e (other, untold-waits Is y d q p untold b) b)
       a.each in
       agree-told y cs (with_record r.name (with_value v.value v.meta) cs) rs rs n e
@@ -185,7 +186,7 @@ module _ (Came : (Circuit → (k i : ℕ) → Type 0) → PutPlace → (i : ℕ)
           ∙ ap (λ (l : List RecordSide). q ∷ l) (same-list name qs)
 
   -- A put is applied, and makes its record busy, which was not.
-  pub agree-busied : (y : List Entry) (cs : List Record) (rs : List RecordSide) (n : ℕ) (i : ℕ) (c : Record) (r : RecordSide) (p : PutPlace) (b : Put) (v : Stored) → At cs i c → At rs i r → c.busy ≡ None → IsUntold y p → Came IsTaken p (length y) v.value → base_of v.value ≡ base_of c.state.value → Is p b → c.state.slow ≡ true → Agree Came Lost Is y cs rs n
+  pub agree-busied : (y : List Entry) (cs : List Record) (rs : List RecordSide) (n : ℕ) (i : ℕ) (c : Record) (r : RecordSide) (p : PutPlace) (b : Put) (v : Stored) → At cs i c → At rs i r → c.busy ≡ None → IsUntold y p → Came IsTaken p (length y) v.value → kind_of v.value ≡ kind_of c.state.value → Is p b → c.state.slow ≡ true → Agree Came Lost Is y cs rs n
       → Agree Came Lost Is (y ++ Applied p.circuit p.place r.number v true ∷ []) (with_record r.name (λ (d : Record). record (with_value v.value v.meta d) { busy = Some b }) cs) (event.with_record r.name (λ (q : RecordSide). record q { busy = Some p }) rs) n
   agree-busied y cs rs n i c r p b v in_cs in_rs idle untold came same is_it slow a =
       let e : Entry = Applied p.circuit p.place r.number v true in
@@ -197,7 +198,7 @@ module _ (Came : (Circuit → (k i : ℕ) → Type 0) → PutPlace → (i : ℕ)
       let none : r.busy ≡ None = both-none r.busy d.busy free g.busy_as in
       let g1 : Agrees Is y (record d { busy = None }) r = subst (λ (o : Option Put). Agrees Is y (record d { busy = o }) r) free g in
       let g2 : Agrees Is y (record d { busy = None }) (record r { busy = None }) = subst (λ (o : Option PutPlace). Agrees Is y (record d { busy = None }) (record r { busy = o })) none g1 in
-      agrees-busied Is y d.state b d.waiting r.name r.number p r.waiting v (same ∙ ap (λ (z : Record). base_of z.state.value) is) (untold-waits Is y d r p untold g)
+      agrees-busied Is y d.state b d.waiting r.name r.number p r.waiting v (same ∙ ap (λ (z : Record). kind_of z.state.value) is) (untold-waits Is y d r p untold g)
       (λ h. untold (Finished p.circuit p.place) h refl) is_it (ap (λ (z : Record). z.state.slow) (sym is) ∙ slow) g2)
       (λ j d q at other g. agrees-spared Is y d q e (other, untold-waits Is y d q p untold g) g)
       a.each in
@@ -213,13 +214,13 @@ module _ (Came : (Circuit → (k i : ℕ) → Type 0) → PutPlace → (i : ℕ)
       both-none (Some p) (Some d) e h = absurd cc
 
   -- A put comes to wait.
-  pub agree-waits : (y : List Entry) (cs : List Record) (rs : List RecordSide) (n : ℕ) (i : ℕ) (c : Record) (r : RecordSide) (p : PutPlace) (w : WaitingPut) (meta : Meta) → At cs i c → At rs i r → base_of w.value ≡ base_of c.state.value → IsUntold y p → Came IsHandledIn p (length y) w.value → Is p w.put → Agree Came Lost Is y cs rs n
+  pub agree-waits : (y : List Entry) (cs : List Record) (rs : List RecordSide) (n : ℕ) (i : ℕ) (c : Record) (r : RecordSide) (p : PutPlace) (w : WaitingPut) (meta : Meta) → At cs i c → At rs i r → kind_of w.value ≡ kind_of c.state.value → IsUntold y p → Came IsHandledIn p (length y) w.value → Is p w.put → Agree Came Lost Is y cs rs n
       → Agree Came Lost Is (y ++ Waits p.circuit p.place r.number (record { value = w.value; meta = meta }) ∷ []) (with_record r.name (with_waiting w) cs) (event.with_record r.name (λ (q : RecordSide). record q { waiting = q.waiting ++ p ∷ [] }) rs) n
   agree-waits y cs rs n i c r p w meta in_cs in_rs fits untold came is_it a =
       let v : Stored = record { value = w.value; meta = meta } in
       let e : Entry = Waits p.circuit p.place r.number v in
       let both = one-changes Is y (y ++ e ∷ []) cs rs i r (with_waiting w) (λ (q : RecordSide). record q { waiting = q.waiting ++ p ∷ [] }) a.others in_rs
-      (λ d at g. agrees-waits Is y d r p w v refl (fits ∙ ap (λ (z : Record). base_of z.state.value) (At-one cs i c d in_cs at)) untold is_it g)
+      (λ d at g. agrees-waits Is y d r p w v refl (fits ∙ ap (λ (z : Record). kind_of z.state.value) (At-one cs i c d in_cs at)) untold is_it g)
       (λ j d q at other g. agrees-spared Is y d q e other g)
       a.each in
       agree-told y cs (with_record r.name (with_waiting w) cs) rs (event.with_record r.name (λ (q : RecordSide). record q { waiting = q.waiting ++ p ∷ [] }) rs) n e
@@ -229,11 +230,11 @@ module _ (Came : (Circuit → (k i : ℕ) → Type 0) → PutPlace → (i : ℕ)
       (others-with r.name (λ (q : RecordSide). record q { waiting = q.waiting ++ p ∷ [] }) rs (λ q. (refl, refl)) a.others) a
 
   -- A value is posted.
-  pub agree-posted : (y : List Entry) (cs : List Record) (rs : List RecordSide) (n : ℕ) (i : ℕ) (c : Record) (r : RecordSide) (mask : ℕ) (v : Stored) → At cs i c → At rs i r → base_of v.value ≡ base_of c.state.value → Agree Came Lost Is y cs rs n → Agree Came Lost Is (y ++ Posted r.number mask v ∷ []) (with_record r.name (with_value v.value v.meta) cs) rs n
+  pub agree-posted : (y : List Entry) (cs : List Record) (rs : List RecordSide) (n : ℕ) (i : ℕ) (c : Record) (r : RecordSide) (mask : ℕ) (v : Stored) → At cs i c → At rs i r → kind_of v.value ≡ kind_of c.state.value → Agree Came Lost Is y cs rs n → Agree Came Lost Is (y ++ Posted r.number mask v ∷ []) (with_record r.name (with_value v.value v.meta) cs) rs n
   agree-posted y cs rs n i c r mask v in_cs in_rs same a =
       let e : Entry = Posted r.number mask v in
       let both = one-changes Is y (y ++ e ∷ []) cs rs i r (with_value v.value v.meta) (λ (q : RecordSide). q) a.others in_rs
-      (λ d at b. agrees-posted Is y d r mask v (same ∙ ap (λ (z : Record). base_of z.state.value) (At-one cs i c d in_cs at)) b)
+      (λ d at b. agrees-posted Is y d r mask v (same ∙ ap (λ (z : Record). kind_of z.state.value) (At-one cs i c d in_cs at)) b)
       (λ j d q at other b. agrees-spared Is y d q e other b)
       a.each in
       agree-told y cs (with_record r.name (with_value v.value v.meta) cs) rs rs n e

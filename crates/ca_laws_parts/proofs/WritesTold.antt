@@ -8,10 +8,11 @@ use Rattle.ca_text.specs.Status.{bad_channel, bad_count, bad_type, no_convert, n
 use Rattle.ca_text.proofs.Places.{some_is}
 use Rattle.ca_dbr.specs.declared.data_type.BaseType.{BaseType}
 use Rattle.ca_dbr.specs.declared.value.Outcome.TheVariants.{Done, Failed}
-use Rattle.ca_dbr.specs.Conversion.{converted}
-use Rattle.ca_dbr.specs.Elements.{Elements, base_of}
+use Rattle.ca_dbr.specs.Elements.{Elements}
+use Rattle.ca_dbr.specs.Held.{kind_of}
 use Rattle.ca_dbr.specs.Reading.{least_size}
 use Rattle.ca_records.specs.Faults.{first_fault, has_misfit, lacks_conversion, late_put_fault}
+use Rattle.ca_records.specs.Given.{given_as}
 use Rattle.ca_records.specs.Record.{RecordState}
 use Rattle.ca_records.specs.Rules.{may_write}
 use Rattle.ca_requests.specs.Meaning.{Means}
@@ -60,7 +61,7 @@ early-above r rights m (Some b) n is =
 
 late-above : (r : RecordState) (waits : Bool) (others : ℕ) (e : Elements) (n : ℕ) → late_put_fault r waits others e ≡ Some n → 1 < n
 late-above r waits others e n is =
-    fault-above ((lacks_conversion (converted e (base_of r.value)), no_convert) ∷ (has_misfit (converted e (base_of r.value)), put_fail) ∷ (cond waits (not (nat_lt others waiting_puts)) false, put_fail) ∷ []) n
+    fault-above ((lacks_conversion (given_as e (kind_of r.value)), no_convert) ∷ (has_misfit (given_as e (kind_of r.value)), put_fail) ∷ (cond waits (not (nat_lt others waiting_puts)) false, put_fail) ∷ []) n
     ((let h : 1 < 400 = omega arith in h), ((let h : 1 < 160 = omega arith in h), ((let h : 1 < 160 = omega arith in h), tt))) is
 
 refused-above : (k : Knows) (m : Fields) (c : Serves k m.p1) (n : ℕ) → PutRefused k m c n → 1 < n

@@ -2,7 +2,8 @@
 use Rattle.std.specs.Prelude.{ℕ, ◌≡◌, ◌<◌, ◌≤◌, ◌⊎◌, Bool, true, List, [], ◌∷◌, Option, Some, None}
 use Rattle.std.specs.Prelude.{filter_map, length, map}
 use Rattle.ca_text.specs.Place.{At}
-use Rattle.ca_dbr.specs.Elements.{Elements, base_of}
+use Rattle.ca_dbr.specs.Elements.{Elements}
+use Rattle.ca_dbr.specs.Held.{kind_of}
 use Rattle.ca_queue.specs.Order.{last_of}
 use Rattle.ca_records.specs.declared.puts.Put.{Put}
 use Rattle.ca_records.specs.Puts.{Record, WaitingPut}
@@ -90,12 +91,12 @@ module _ (Is : PutPlace → Put → Type 0) where
     pub added : In y (Added r.number first)
     pub there : In y (Removed r.number) → ⊥
     pub state : c.state ≡ record first { value = c.state.value; meta = c.state.meta }
-    pub base : base_of c.state.value ≡ base_of first.value
+    pub base : kind_of c.state.value ≡ kind_of first.value
     pub value : value_by y r.number ≡ Some (stored c)
     pub waits : waiting y r.number ≡ map pair_of r.waiting
     pub each : Both (WaitsAs y r.number) r.waiting c.waiting
     pub apart : AreApart r.waiting
-    pub based : (i : ℕ) (w : WaitingPut) → At c.waiting i w → base_of w.value ≡ base_of first.value
+    pub based : (i : ℕ) (w : WaitingPut) → At c.waiting i w → kind_of w.value ≡ kind_of first.value
     pub busy : IsBusyBy y r.number r.busy
     pub busy_as : IsBusyAs r.busy c.busy
     -- only a slow record is made busy

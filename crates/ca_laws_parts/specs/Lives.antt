@@ -3,9 +3,10 @@ use Rattle.std.specs.Prelude.{ℕ, ◌≡◌, ◌⊎◌, false, true, List, Ok, 
 use Rattle.ca_text.specs.declared.command.Command.TheVariants as command
 use Rattle.ca_text.specs.declared.status.Status.{Status}
 use Rattle.ca_text.specs.Place.{At}
-use Rattle.ca_dbr.specs.Conversion.{converted}
 use Rattle.ca_dbr.specs.declared.value.Outcome.TheVariants.{Done, Failed}
-use Rattle.ca_dbr.specs.Elements.{Elements, base_of}
+use Rattle.ca_dbr.specs.Elements.{Elements}
+use Rattle.ca_dbr.specs.Held.{kind_of}
+use Rattle.ca_records.specs.Given.{given_as}
 use Rattle.ca_ids.specs.Wire.{wire_of}
 use Rattle.ca_records.specs.declared.puts.Put.{Put}
 use Rattle.ca_records.specs.Puts.{Record}
@@ -39,7 +40,7 @@ pub record CameOn (circuits : List Joined) (life : ℕ) (Taken : Circuit → (k 
   pub writes : IsWriting s.message
   pub given : Elements
   pub reads : PutReads s.message given
-  pub is : converted given (base_of value) ≡ Ok value
+  pub is : given_as given (kind_of value) ≡ Ok value
   pub taken : Taken c.lists p.place i
 
 -- Before entry i the put's channel was cleared, or the server's end of its circuit ended.
@@ -110,7 +111,7 @@ pub record IsOfMessage (w : World) (n k life i r : ℕ) (v : Stored) : Type 0 wh
   pub reads : PutReads s.message given
   pub to : RecordState
   pub there : In (take i y) (Added r to) × (In (take i y) (Removed r) → ⊥)
-  pub value : converted given (base_of to.value) ≡ Ok v.value
+  pub value : given_as given (kind_of to.value) ≡ Ok v.value
   pub came : IsTaken c.lists k i ⊎ HasWaited n c.lists y k i r
 
 -- ---- replies
@@ -166,4 +167,4 @@ pub record WritesTo (k : Knows) (m : Fields) (name : List ℕ) (value : Elements
   pub named : k.record_of name ≡ Some known
   pub given : Elements
   pub reads : PutReads m given
-  pub is : converted given (base_of known.state.value) ≡ Ok value
+  pub is : given_as given (kind_of known.state.value) ≡ Ok value

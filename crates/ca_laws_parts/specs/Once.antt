@@ -1,7 +1,8 @@
 -- Working: the log of a server's life: each write in it once, and as it came.
 use Rattle.std.specs.Prelude.{ℕ, ◌≡◌, ◌<◌, ◌⊎◌, Bool, List, Option, Some, None, length, take}
 use Rattle.ca_text.specs.Place.{At}
-use Rattle.ca_dbr.specs.Elements.{Elements, base_of}
+use Rattle.ca_dbr.specs.Elements.{Elements}
+use Rattle.ca_dbr.specs.Held.{kind_of}
 use Rattle.ca_records.specs.Record.{RecordState}
 use Rattle.ca_model.specs.Speech.{In, Stored}
 use Rattle.ca_model.specs.History.{Circuit, Entry, Added, Applied, Finished, Removed, Waits}
@@ -58,7 +59,7 @@ module _ (Came : (Circuit → (k i : ℕ) → Type 0) → PutPlace → (i : ℕ)
     pub applied : (i j n k r q : ℕ) (v u : Stored) (b d : Bool) → At y i (Applied n k r v b)
         → At y j (Applied n k q u d) → i ≡ j
     pub there : (i n k r : ℕ) (v : Stored) (b : Bool) → At y i (Applied n k r v b)
-        → ((s : RecordState) × In (take i y) (Added r s) × (base_of v.value ≡ base_of s.value))
+        → ((s : RecordState) × In (take i y) (Added r s) × (kind_of v.value ≡ kind_of s.value))
         × (In (take i y) (Removed r) → ⊥)
     pub own : (i n k r : ℕ) (v : Stored) (b : Bool) → At y i (Applied n k r v b)
         → Came IsTaken (record { circuit = n; place = k }) i v.value
@@ -81,7 +82,7 @@ module _ (Came : (Circuit → (k i : ℕ) → Type 0) → PutPlace → (i : ℕ)
       × Came IsHandledIn (record { circuit = n; place = k }) (length y) v.value
   MayTell y (Applied n k r v busies) =
       (IsApplied y (record { circuit = n; place = k }) → ⊥) × (In y (Withdrawn n k) → ⊥)
-      × ((s : RecordState) × In y (Added r s) × (base_of v.value ≡ base_of s.value))
+      × ((s : RecordState) × In y (Added r s) × (kind_of v.value ≡ kind_of s.value))
       × (In y (Removed r) → ⊥)
       × (Came IsTaken (record { circuit = n; place = k }) (length y) v.value
       ⊎ HadWaited y (record { circuit = n; place = k }) (length y) r v.value)

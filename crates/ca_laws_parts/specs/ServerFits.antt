@@ -1,7 +1,8 @@
 -- Working: what holds of a server's core so that all that it sends are messages.
 use Rattle.std.specs.Prelude.{ℕ, ◌≡◌, ◌<◌, ◌≤◌, ◌⊎◌, ◌^◌, List, [], Some}
 use Rattle.ca_arena.specs.declared.handle.Handle.{Handle}
-use Rattle.ca_dbr.specs.Elements.{Elements, IsValue, count_of}
+use Rattle.ca_dbr.specs.Elements.{Elements, count_of}
+use Rattle.ca_dbr.specs.Held.{IsHeldValue}
 use Rattle.ca_queue.specs.declared.entry.SubKey.{SubKey}
 use Rattle.ca_queue.specs.Queue.{Queue}
 use Rattle.ca_records.specs.declared.puts.Put.{Put}
@@ -24,7 +25,7 @@ AllAt {A} P xs = (i : ℕ) (x : A) → At xs i x → P x
 
 -- a value that a record may have: one element at least
 abbrev pub ValueFits : Elements → Type 0
-ValueFits e = IsValue e × (0 < count_of e) × (count_of e ≤ element_limit)
+ValueFits e = IsHeldValue e × (0 < count_of e) × (count_of e ≤ element_limit)
 
 -- a put whose type, count and IOID fit messages
 abbrev pub PutFits : Put → Type 0

@@ -5,7 +5,7 @@ use Rattle.std.specs.Prelude.{Ok, Err, filter, if◌then◌else◌, map, take}
 use Rattle.std.specs.List.{FoldsTo}
 use Rattle.ca_text.specs.declared.refusal.Refusal.{Refusal}
 use Rattle.ca_text.specs.Place.{At}
-use Rattle.ca_dbr.specs.Elements.{IsValue}
+use Rattle.ca_dbr.specs.Held.{IsHeldValue}
 use Rattle.ca_arena.specs.declared.handle.Handle.{Handle}
 use Rattle.ca_ids.specs.Table.{same_handle, under}
 use Rattle.ca_records.specs.declared.puts.Stamp.{Stamp}
@@ -124,8 +124,8 @@ ByCall c old call new =
 
 -- Values that callers give are values, each element one of its type.
 abbrev pub IsCall : Call → Type 0
-IsCall (Post name v mask answer) = IsValue v.value
-IsCall (AddRecord s answer) = IsValue s.value
+IsCall (Post name v mask answer) = IsHeldValue v.value
+IsCall (AddRecord s answer) = IsHeldValue s.value
 IsCall call = Unit {0}
 
 -- a new server's port, rules and records, and the moment

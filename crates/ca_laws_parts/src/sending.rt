@@ -2,7 +2,8 @@
 //! is in `byte_laws.rt`.
 ghost use Rattle.std.specs.Prelude.{[], ◌<◌, ◌≡◌, ◌^◌, Bool, List, Ok, Option, map, ℕ};
 ghost use Rattle.ca_arena.specs.declared.handle.Handle.{Handle};
-ghost use Rattle.ca_dbr.specs.Elements.{Elements, IsValue};
+ghost use Rattle.ca_dbr.specs.Elements.{Elements};
+ghost use Rattle.ca_dbr.specs.Held.{IsHeldValue};
 ghost use Rattle.ca_records.specs.Record.{IsRecord, RecordState, unset};
 ghost use Rattle.ca_records.specs.Rules.{Rule};
 ghost use Rattle.ca_text.specs.Place.{At};
@@ -54,7 +55,7 @@ pub fn a_server_sends_messages()
         → Pumps y h us new → ServerFits y
         → AreMessages (map (λ (u : Update). u.message) us) × ServerFits new }
     ensures posts { (y : Server) (name : List ℕ) (e : Elements) (mask : ℕ) (gone : Handle → Bool)
-        (new : Server) → IsValue e
+        (new : Server) → IsHeldValue e
         → Posts y name (record { value = e; meta = unset }) mask gone (Ok tt) new → ServerFits y
         → ServerFits new }
     ensures finishes { (y : Server) (name : List ℕ) (sent : List (Handle × Fields)) (new : Server)
@@ -66,7 +67,7 @@ pub fn a_server_sends_messages()
         (h : Handle) → ServerFits y
         → AreMessages (map (λ (c : Handle × OpenChannel). disconnect c.1.cid)
         (disconnected_at name gone left h (under y.circuits h))) }
-    ensures adds { (y : Server) (r : RecordState) (behind : ℕ) (new : Server) → IsValue r.value
+    ensures adds { (y : Server) (r : RecordState) (behind : ℕ) (new : Server) → IsHeldValue r.value
         → AddsRecord y r behind (Ok tt) new → ServerFits y → ServerFits new }
 {}
 

@@ -10,7 +10,8 @@ ghost use Rattle.ca_dbr.specs.declared.value.Meta.{Meta};
 ghost use Rattle.ca_text.specs.declared.command.Command.TheVariants.{WriteNotify};
 ghost use Rattle.ca_text.specs.declared.status.Status.{Status};
 ghost use Rattle.ca_dbr.specs.declared.value.Outcome.TheVariants.{Done, Failed};
-ghost use Rattle.ca_dbr.specs.Elements.{Elements, base_of};
+ghost use Rattle.ca_dbr.specs.Elements.{Elements};
+ghost use Rattle.ca_dbr.specs.Held.{kind_of};
 ghost use Rattle.ca_model.specs.Due.{Action, Applies, Due, Knows, Nothing};
 ghost use Rattle.ca_requests.specs.Meaning.{Means};
 ghost use Rattle.ca_records.specs.declared.puts.Put.{Put};
@@ -69,7 +70,7 @@ pub fn records_agree_with_their_log()
         (cs : List Record) (rs : List RecordSide) (n i : ℕ) (c : Record) (r : RecordSide)
         (p : PutPlace) (v : Stored) → At cs i c → At rs i r → IsUntold y p
         → CameOn circuits life IsTaken p (length y) v.value
-        → base_of v.value ≡ base_of c.state.value
+        → kind_of v.value ≡ kind_of c.state.value
         → Life circuits server life y cs rs n
         → Life circuits server life (y ++ Applied p.circuit p.place r.number v false ∷ [])
         (with_record r.name (with_value v.value v.meta) cs) rs n }
@@ -77,7 +78,7 @@ pub fn records_agree_with_their_log()
         (cs : List Record) (rs : List RecordSide) (n i : ℕ) (c : Record) (r : RecordSide)
         (p : PutPlace) (b : Put) (v : Stored) → At cs i c → At rs i r → c.busy ≡ None
         → IsUntold y p → CameOn circuits life IsTaken p (length y) v.value
-        → base_of v.value ≡ base_of c.state.value → IsPutOf circuits server p b
+        → kind_of v.value ≡ kind_of c.state.value → IsPutOf circuits server p b
         → c.state.slow ≡ true → Life circuits server life y cs rs n
         → Life circuits server life (y ++ Applied p.circuit p.place r.number v true ∷ [])
         (with_record r.name
@@ -87,7 +88,7 @@ pub fn records_agree_with_their_log()
     ensures waits { (circuits : List Joined) (server life : ℕ) (y : List Entry)
         (cs : List Record) (rs : List RecordSide) (n i : ℕ) (c : Record) (r : RecordSide)
         (p : PutPlace) (w : WaitingPut) (meta : Meta) → At cs i c → At rs i r
-        → base_of w.value ≡ base_of c.state.value → IsUntold y p
+        → kind_of w.value ≡ kind_of c.state.value → IsUntold y p
         → CameOn circuits life IsHandledIn p (length y) w.value → IsPutOf circuits server p w.put
         → Life circuits server life y cs rs n
         → Life circuits server life
@@ -121,7 +122,7 @@ pub fn records_agree_with_their_log()
     // A value is posted.
     ensures posted { (circuits : List Joined) (server life : ℕ) (y : List Entry)
         (cs : List Record) (rs : List RecordSide) (n i : ℕ) (c : Record) (r : RecordSide)
-        (mask : ℕ) (v : Stored) → At cs i c → At rs i r → base_of v.value ≡ base_of c.state.value
+        (mask : ℕ) (v : Stored) → At cs i c → At rs i r → kind_of v.value ≡ kind_of c.state.value
         → Life circuits server life y cs rs n
         → Life circuits server life (y ++ Posted r.number mask v ∷ [])
         (with_record r.name (with_value v.value v.meta) cs) rs n }
@@ -243,7 +244,7 @@ pub fn events_at_a_server_keep_writes()
         → Midway w w i y y (h.lives i y at).log [] y.core.records }
     ensures posted { (w : World) (i : ℕ) (y : ServerSide) (name : List ℕ) (v : Stored) (mask : ℕ)
         (c : Record) (at : At w.servers i y) (h : Writes w)
-        → record_named y.core.records name ≡ Some c → base_of v.value ≡ base_of c.state.value
+        → record_named y.core.records name ≡ Some c → kind_of v.value ≡ kind_of c.state.value
         → Midway w (post_told w i y name v mask) i y y (h.lives i y at).log
         (posted_entry y name v mask)
         (with_record name (with_value v.value v.meta) y.core.records) }

@@ -5,10 +5,12 @@ use Rattle.ca_dbr.specs.Conversion.{converted}
 use Rattle.ca_dbr.specs.declared.data_type.BaseType.{BaseType}
 use Rattle.ca_dbr.specs.declared.data_type.DataType.{DataType}
 use Rattle.ca_dbr.specs.declared.value.Outcome.TheVariants.{Failed}
-use Rattle.ca_dbr.specs.Elements.{Elements, base_of}
+use Rattle.ca_dbr.specs.Elements.{Elements}
+use Rattle.ca_dbr.specs.Held.{kind_of}
 use Rattle.ca_dbr.specs.Reading.{least_size}
 use Rattle.ca_queue.specs.Keys.{is_among}
 use Rattle.ca_records.specs.Faults.{first_fault, has_misfit, lacks_conversion, late_put_fault}
+use Rattle.ca_records.specs.Given.{given_as}
 use Rattle.ca_records.specs.Record.{RecordState}
 use Rattle.ca_records.specs.Rules.{may_read, may_write}
 use Rattle.ca_requests.specs.Meaning.{Means}
@@ -59,7 +61,7 @@ early-other r rights m (Some b) n is =
 
 late-other : (r : RecordState) (waits : Bool) (others : ℕ) (e : Elements) (n : ℕ) → late_put_fault r waits others e ≡ Some n → n ≡ 410 → ⊥
 late-other r waits others e n is =
-    fault-other ((lacks_conversion (converted e (base_of r.value)), no_convert) ∷ (has_misfit (converted e (base_of r.value)), put_fail) ∷ (cond waits (not (nat_lt others waiting_puts)) false, put_fail) ∷ []) n
+    fault-other ((lacks_conversion (given_as e (kind_of r.value)), no_convert) ∷ (has_misfit (given_as e (kind_of r.value)), put_fail) ∷ (cond waits (not (nat_lt others waiting_puts)) false, put_fail) ∷ []) n
     (differs 400 refl, (differs 160 refl, (differs 160 refl, tt))) is
 
 put-other : (k : Knows) (m : Fields) (c : Serves k m.p1) (n : ℕ) → PutRefused k m c n → n ≡ 410 → ⊥

@@ -3,8 +3,9 @@
 use Rattle.std.proofs.Common.{◌≡◌, ℕ, List, Ok, Option, refl, sym, ap, subst, ◌∙◌}
 use Rattle.ca_text.specs.Place.{At}
 use Rattle.ca_text.proofs.Places.{At-map, At-one}
-use Rattle.ca_dbr.specs.Conversion.{converted}
-use Rattle.ca_dbr.specs.Elements.{Elements, base_of}
+use Rattle.ca_dbr.specs.Elements.{Elements}
+use Rattle.ca_dbr.specs.Held.{kind_of}
+use Rattle.ca_records.specs.Given.{given_as}
 use Rattle.ca_records.specs.Record.{RecordState}
 use Rattle.ca_model.specs.History.{Added, Applied, Ask, Called, Create, Entry, Intent, On, Opened, Sent, ToWrite}
 use Rattle.ca_model.specs.Speech.{In, IsWritten, Stored}
@@ -85,7 +86,7 @@ module _ (s : Setting) (es : List Event) (stopped : Option Event) (w : World) (o
       called = ((m.s, m.sent, meant.2), subst (λ (z : Intent). In t.x (Called z (ToWrite carried.given))) meant.2 carried.called);
       to = m.to;
       there = (subst (λ (z : ℕ × RecordState). In t.x (Opened z.0 (z.1).name)) (λ j. (sym number j, sym state j)) t.opened, (m.there).0, (m.there).1);
-      value = subst (λ (z : Elements). converted z (base_of (m.to).value) ≡ Ok v.value) given m.value;
+      value = subst (λ (z : Elements). given_as z (kind_of (m.to).value) ≡ Ok v.value) given m.value;
       written = told_of.1;
       came = m.came;
     }

@@ -5,8 +5,9 @@ use Rattle.std.specs.Prelude.{Some, None, Ok}
 use Rattle.std.specs.Prelude.{length, map, option_map, slice_get, take, unwrap_or}
 use Rattle.ca_text.specs.declared.command.Command.TheVariants as command
 use Rattle.ca_text.specs.Place.{At}
-use Rattle.ca_dbr.specs.Conversion.{converted}
-use Rattle.ca_dbr.specs.Elements.{Elements, base_of}
+use Rattle.ca_dbr.specs.Elements.{Elements}
+use Rattle.ca_dbr.specs.Held.{kind_of}
+use Rattle.ca_records.specs.Given.{given_as}
 use Rattle.ca_records.specs.Record.{RecordState}
 use Rattle.ca_wire.specs.Fields.{Fields}
 use Rattle.ca_model.specs.Speech.{Id, Cid, Ioid, SubId, Clears, Creates, Ends, Gives, In, Is}
@@ -242,9 +243,10 @@ pub record IsDropped (w : World) (n k l i : ℕ) (y : List Entry) : Type 0 where
   pub why : In (take i y) (Removed r)
       ⊎ (IsCleared c k (sid_in s.message) i ⊎ (c.server_open ≡ false))
 
--- A write that is applied at entry i has the value that its caller gave, in the type of its record,
--- with no alarm; the record was there then, under the name of the caller's channel; and it was
--- applied when it was handled, or the server's end closed on it, or after it had waited.
+-- A write that is applied at entry i has the value that its caller gave, in the type of its record
+-- and with that one's display data, and no alarm; the record was there then, under the name of the
+-- caller's channel; and it was applied when it was handled, or the server's end closed on it, or
+-- after it had waited.
 pub record IsOwnWrite (w : World) (n k l i r : ℕ) (v : Stored) : Type 0 where
   pub c : Circuit
   pub x : List Line
@@ -257,7 +259,7 @@ pub record IsOwnWrite (w : World) (n k l i r : ℕ) (v : Stored) : Type 0 where
   pub to : RecordState
   pub there : In x (Opened channel to.name) × In (take i y) (Added r to)
       × (In (take i y) (Removed r) → ⊥)
-  pub value : converted given (base_of to.value) ≡ Ok v.value
+  pub value : given_as given (kind_of to.value) ≡ Ok v.value
   pub written : IsWritten v
   pub came : IsTaken c k i ⊎ HasWaited n c y k i r
 

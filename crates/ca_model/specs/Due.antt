@@ -9,14 +9,15 @@ use Rattle.ca_text.specs.declared.command.Command.TheVariants as command
 use Rattle.ca_text.specs.Status.{bad_channel, normal}
 use Rattle.ca_dbr.specs.declared.data_type.BaseType.{BaseType}
 use Rattle.ca_dbr.specs.declared.data_type.DataType.{DataType}
-use Rattle.ca_dbr.specs.Conversion.{converted}
 use Rattle.ca_dbr.specs.Elements.{Elements, base_of, count_of}
+use Rattle.ca_dbr.specs.Held.{kind_of}
 use Rattle.ca_dbr.specs.Image.{image}
 use Rattle.ca_dbr.specs.Reading.{ReadsElements}
 use Rattle.ca_dbr.specs.Types.{base_number}
 use Rattle.ca_queue.specs.declared.entry.SubKey.{SubKey}
 use Rattle.ca_queue.specs.Keys.{is_among}
 use Rattle.ca_records.specs.Faults.{late_put_fault}
+use Rattle.ca_records.specs.Given.{given_as}
 use Rattle.ca_records.specs.Record.{RecordState}
 use Rattle.ca_records.specs.Rules.{Rule, rights}
 use Rattle.ca_wire.specs.Fields.{Fields}
@@ -175,13 +176,13 @@ PutRefused k m c status =
     ⊎ ((early_fault k m c ≡ None)
     × ((e : Elements) × PutReads m e × (late_fault k m c e ≡ Some status)))
 
--- The value that a put without fault writes, in the type of its record.
+-- The value that a put without fault writes, in the type of its record and with its display data.
 pub record PutTaken (k : Knows) (m : Fields) (c : Serves k m.p1) (value : Elements) : Type 0 where
   pub elements : Elements
   pub early : early_fault k m c ≡ None
   pub reads : PutReads m elements
   pub late : late_fault k m c elements ≡ None
-  pub is : converted elements (base_of c.known.state.value) ≡ Ok value
+  pub is : given_as elements (kind_of c.known.state.value) ≡ Ok value
 
 -- A WRITE is applied at once and has no reply; a refused one is answered by ERROR.
 abbrev pub WriteDue : Knows → Fields → List Fields → Action → Type 0

@@ -3,6 +3,7 @@ use Rattle.std.specs.Prelude.{ℕ, ◌≡◌, ◌<◌, ◌≤◌, ◌⊎◌, tru
 use Rattle.std.specs.List.{FoldsTo, range_with_len}
 use Rattle.ca_arena.specs.declared.handle.Handle.{Handle}
 use Rattle.ca_dbr.specs.Elements.{IsValue}
+use Rattle.ca_dbr.specs.Held.{IsHeldValue}
 use Rattle.ca_records.specs.Record.{unset}
 use Rattle.ca_text.specs.declared.refusal.Refusal.TheVariants.{OutOfMemory}
 use Rattle.ca_text.specs.Mask.{HasEvent}
@@ -173,9 +174,9 @@ Runs setting es stopped w =
 abbrev pub IsEvent : Event → Type 0
 IsEvent (event.Write i c e) = IsValue e
 IsEvent (event.WriteNotify i c e) = IsValue e
-IsEvent (event.Post i name e mask) = IsValue e × HasEvent mask
+IsEvent (event.Post i name e mask) = IsHeldValue e × HasEvent mask
 IsEvent (event.Subscribe i c data_type count mask) = HasEvent mask × (mask < 65536)
-IsEvent (event.Add i r) = IsValue r.value × (r.meta ≡ unset)
+IsEvent (event.Add i r) = IsHeldValue r.value × (r.meta ≡ unset)
 IsEvent e = Unit {0}
 
 abbrev pub AreEvents : List Event → Type 0

@@ -6,6 +6,7 @@ use Rattle.ca_text.proofs.Places.{some_is}
 use Rattle.ca_dbr.specs.Elements.{doubles, base_of}
 use Rattle.ca_records.specs.Puts.{Record}
 use Rattle.ca_dbr.specs.Elements.{signed_bytes_4}
+use Rattle.ca_dbr.specs.Held.{Kind, kind_of}
 use Rattle.ca_wire.specs.Header.{extended_header, header_spelling, number16, number32, short_header}
 use Rattle.ca_wire.specs.Message.{spelling}
 use Rattle.ca_wire.proofs.Fronts.{no-header, none-below}
@@ -85,7 +86,7 @@ posts-not-so = (
   (λ gone new p. (let some = p.0.3 in omega (arith, some))),
   (λ p.
       let is : temp_now (long 21) ≡ p.0 = some_is _ p.0 p.1 in
-      let e : base_of (doubles []) ≡ base_of (long 21).value = p.2 ∙ ap (λ (r : Record). base_of r.state.value) (sym is) in
+      let e : base_of (doubles []) ≡ base_of (long 21).value = ap (λ (k : Kind). k.base) (p.2 ∙ ap (λ (r : Record). kind_of r.state.value) (sym is)) in
       cc),
 )
 

@@ -31,7 +31,7 @@ unfolding byte_1 bytes_2 bytes_4 bytes_8 signed_bytes_2 signed_bytes_4 string_by
 written-as-time-long = refl
 
 pub converts : Converts
-converts = (refl, refl, refl, refl)
+converts = (refl, refl, refl, refl, refl)
 
 pub read-faults : ReadFaults
 read-faults = (refl, refl, refl, refl, refl, refl, refl)

@@ -3,7 +3,9 @@ use Rattle.std.proofs.Common.{◌≡◌, ℕ, ◌⊎◌, inl, inr, List, [], ◌
 use Rattle.ca_text.proofs.Places.{some_is}
 use Rattle.std.specs.Prelude.{Bool, true, false, take, pos, Ok}
 use Rattle.ca_text.specs.Place.{At}
-use Rattle.ca_dbr.specs.Elements.{Elements, longs, base_of}
+use Rattle.ca_dbr.specs.Elements.{Elements, longs}
+use Rattle.ca_dbr.specs.Held.{kind_of}
+use Rattle.ca_records.specs.Given.{given_as}
 use Rattle.ca_dbr.specs.Conversion.{converted}
 use Rattle.ca_dbr.specs.declared.value.Meta.{Meta}
 use Rattle.ca_records.specs.Record.{RecordState}
@@ -24,7 +26,7 @@ put-sent c x y e at asks = (0, 0, (c, refl, e, (putting 0 8 22, at, refl)))
 
 -- The put is the caller's own if its value is converted to this one, its record was there, and it was taken.
 own-put : (c : Circuit) (x : List Line) (y : List Entry) (i : ℕ) (v : Stored) → c.client ≡ 0 → c.server ≡ 0 → At c.up 0 (putting 0 8 22) → At x 0 (Opened 0 temp_name) → At x 1 (Called (On 0 (Request Put 0)) (ToWrite (longs (pos 22 ∷ []))))
-    → At (take i y) 0 (Added 0 temp) → (In (take i y) (Removed 0) → ⊥) → converted (longs (pos 22 ∷ [])) (base_of temp.value) ≡ Ok v.value
+    → At (take i y) 0 (Added 0 temp) → (In (take i y) (Removed 0) → ⊥) → given_as (longs (pos 22 ∷ [])) (kind_of temp.value) ≡ Ok v.value
     → IsWritten v → IsTaken c 0 i ⊎ HasWaited 0 c y 0 i 0 → IsOwnWrite (world (c ∷ []) x y) 0 0 0 i 0 v
 own-put c x y i v e f at opens calls there kept value written came = record {
   c = c;
@@ -113,7 +115,7 @@ not-own-value o =
     let given : o.given ≡ longs (pos 22 ∷ []) = each-at (λ (i : ℕ) (l : Line). l ≡ Called (On o.channel o.ask) (ToWrite o.given) → o.given ≡ longs (pos 22 ∷ [])) put_called ((λ e. absurd cc), ((λ e. sym (ap given-of e)), tt)) o.called.1.0 _ call refl in
     let there : At (Added 0 temp ∷ []) o.there.1.0 (Added 0 o.to) = subst (λ (l : List Entry). At (take 1 l) o.there.1.0 (Added 0 o.to)) (sym (its-entries closing put_called made_23 refl refl 0 1 0 (long 23) o)) o.there.1.1 in
     let to : o.to ≡ temp = ap state-of (one-at (Added 0 temp) o.there.1.0 _ there).1 in
-    let value : converted (longs (pos 22 ∷ [])) (base_of temp.value) ≡ Ok (long 23).value = subst (λ (a : Elements). converted a (base_of temp.value) ≡ Ok (long 23).value) given (subst (λ (a : RecordState). converted o.given (base_of a.value) ≡ Ok (long 23).value) to o.value) in
+    let value : given_as (longs (pos 22 ∷ [])) (kind_of temp.value) ≡ Ok (long 23).value = subst (λ (a : Elements). given_as a (kind_of temp.value) ≡ Ok (long 23).value) given (subst (λ (a : RecordState). given_as o.given (kind_of a.value) ≡ Ok (long 23).value) to o.value) in
     cc
 
 pub another-value : BreaksOnly part.OwnWrite (put_closing made_23)

@@ -1,6 +1,6 @@
 -- Vocabulary: worked rows of the definitions that compute at a server. What is expected is the
 -- protocol's own bytes and numbers.
-use Rattle.std.specs.Prelude.{ℕ, ◌≡◌, ◌==◌, pos, negsuc, Bool, true, false, List, [], ◌∷◌, ◌++◌}
+use Rattle.std.specs.Prelude.{ℕ, ◌≡◌, ◌==◌, ℤ, pos, negsuc, Bool, true, false, List, [], ◌∷◌, ◌++◌}
 use Rattle.std.specs.Prelude.{Option, Some, None, Result, Ok, Err, length, map, replicate}
 use Rattle.std.specs.List.{fold, range_with_len}
 use Rattle.ca_text.specs.declared.command.Command.TheVariants as command
@@ -11,9 +11,11 @@ use Rattle.ca_dbr.specs.declared.data_type.BaseType.TheVariants as base
 use Rattle.ca_dbr.specs.declared.data_type.DataType.{DataType}
 use Rattle.ca_dbr.specs.declared.value.Meta.{Meta}
 use Rattle.ca_dbr.specs.Conversion.{converted}
-use Rattle.ca_dbr.specs.Elements.{Elements, doubles, longs, strings}
+use Rattle.ca_dbr.specs.Elements.{Elements, displayed, doubles, longs, strings}
+use Rattle.ca_dbr.specs.Held.{kind_of}
 use Rattle.ca_dbr.specs.Image.{image}
 use Rattle.ca_records.specs.Faults.{late_put_fault}
+use Rattle.ca_records.specs.Given.{given_as}
 use Rattle.ca_records.specs.declared.puts.Put.{Put}
 use Rattle.ca_records.specs.Puts.{Record, WaitingPut, finished, with_waiting, withdrawn}
 use Rattle.ca_records.specs.Puts.{written_meta}
@@ -148,13 +150,27 @@ text_4x2 = strings ((52 ∷ 120 ∷ 50 ∷ replicate 37 0) ∷ [])
 abbrev pub text_minus_1 : Elements
 text_minus_1 = strings ((45 ∷ 49 ∷ replicate 38 0) ∷ [])
 
--- "42" is 42, "4x2" is no number, and "-1" as CHAR lies outside
+-- a LONG in millimetres
+abbrev pub in_mm : ℤ → Elements
+in_mm z =
+    displayed
+    (record {
+      units = 109 ∷ 109 ∷ replicate 6 0;
+      precision = pos 0;
+      limits = replicate 8 0;
+      states = [];
+    })
+    (longs (z ∷ []))
+
+-- "42" is 42, "4x2" is no number, and "-1" as CHAR lies outside; and what is written to a record
+-- has its unit
 abbrev pub Converts : Type 0
 Converts =
     (converted text_42 base.Long ≡ Ok (longs (pos 42 ∷ [])))
     × (converted text_4x2 base.Long ≡ Err refusal.BadText)
     × (converted text_minus_1 base.Long ≡ Ok (longs (negsuc 0 ∷ [])))
     × (converted (longs (negsuc 0 ∷ [])) base.Char ≡ Err refusal.OutOfRange)
+    × (given_as text_42 (kind_of (in_mm (pos 21))) ≡ Ok (in_mm (pos 42)))
 
 -- ---- faults of a read, in their order: of each two that follow each other the first decides
 

@@ -4,7 +4,7 @@ use Rattle.std.proofs.lemmas.List.{length_push}
 use Rattle.std.specs.declared.alloc.AllocError.{AllocError}
 use Rattle.ca_arena.specs.declared.handle.Handle.{Handle}
 use Rattle.ca_dbr.specs.declared.value.Meta.{Meta}
-use Rattle.ca_dbr.specs.Elements.{Elements, IsValue}
+use Rattle.ca_dbr.specs.Elements.{Elements}
 use Rattle.ca_text.specs.declared.refusal.Refusal.{Refusal}
 use Rattle.ca_text.specs.declared.refusal.Refusal.TheVariants as refusal
 use Rattle.ca_text.specs.Place.{At}
@@ -16,7 +16,7 @@ use Rattle.ca_records.specs.declared.slot.RecordSlot.{RecordSlot}
 use Rattle.ca_records.specs.declared.slot.RecordSlot.TheVariants.{Full}
 use Rattle.ca_records.specs.Chain.{IsStored}
 use Rattle.ca_records.specs.Judging.{fewer_waiting, more_waiting}
-use Rattle.ca_records.specs.Layout.{IsFit, MayHave}
+use Rattle.ca_records.specs.Layout.{MayHave}
 use Rattle.ca_records.specs.declared.puts.Put.{Put}
 use Rattle.ca_records.specs.declared.puts.Stamp.{Stamp}
 use Rattle.ca_records.specs.Puts.{Record, WaitingPut, finished, record_named, with_value, withdrawn, without_puts}
@@ -162,10 +162,6 @@ withdraw-step slots free f waiting more gone rules stamp place r next circuit ch
     }
 
 -- ---- posts
-
-pub is-fit-to-post : (s : RecordState) (e : Elements) → MayHave s e → IsValue e → IsFit s e
-is-fit-to-post s e may valued =
-    record { holds = record { one = may.one; within = may.within; limit = may.limit }; valued = valued; based = may.based }
 
 pub record PostStep (slots : List RecordSlot) (free : Option ℕ) (f : List ℕ → Option ℕ) (rules : List Rule) (stamp : Stamp) (name : List ℕ) (place : ℕ) (next : Record) (e : Elements) (meta : Meta) (waiting : ℕ) : Type 0 where
   pub stored : IsStored (slice_set slots place (Full next)) free f waiting

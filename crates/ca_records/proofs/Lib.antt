@@ -3,6 +3,7 @@ mod Beginnings
 mod CallSteps
 mod Copies
 mod Faulted
+pub mod Givens
 mod Hashed
 mod Indexes
 mod Openings

@@ -2,9 +2,12 @@
 use Rattle.std.proofs.Common.{◌≡◌, ℕ, ◌+◌, ◌≤◌, ◌&&◌, Bool, true, false, not, List, [], ◌∷◌, length, is_some, if◌then◌else◌, nat_lt, Option, None, Some, Ok, Result, slice_set, refl, sym, ap, ◌∙◌, subst, arith}
 use Rattle.ca_dbr.specs.declared.data_type.BaseType.{BaseType}
 use Rattle.ca_dbr.specs.declared.value.Meta.{Meta}
-use Rattle.ca_dbr.specs.Conversion.{converted}
-use Rattle.ca_dbr.specs.Elements.{Elements, strings, ints, floats, enums, chars, longs, doubles, base_of, count_of}
-use Rattle.ca_dbr.specs.Reading.{CanReadOver, ReadsElements, least_size}
+use Rattle.ca_dbr.specs.Conversion.{converted, with_data}
+use Rattle.ca_dbr.specs.Display.{DisplayData}
+use Rattle.ca_dbr.specs.Held.{display_of, displayed_by, kind_of}
+use Rattle.ca_dbr.specs.Elements.{Elements, strings, ints, floats, enums, chars, longs, doubles, displayed, base_of, count_of, IsValue}
+use Rattle.ca_dbr.specs.Reading.{CanReadOver, ReadsElements, ReadsOver, least_size}
+use Rattle.ca_dbr.proofs.Helds.{display_of-valued}
 use Rattle.ca_dbr.specs.Types.{base_number}
 use Rattle.ca_text.specs.Limits.{waiting_puts}
 use Rattle.ca_text.specs.Place.{At}
@@ -18,15 +21,17 @@ use Rattle.ca_records.specs.declared.slot.RecordSlot.TheVariants.{Full}
 use Rattle.ca_records.specs.Chain.{IsStored}
 use Rattle.ca_records.specs.Faults.{put_fault}
 use Rattle.ca_records.specs.Layout.{AreFit}
-use Rattle.ca_records.specs.Over.{IsOne, PutsOver, TakesOver, WritesOver}
+use Rattle.ca_records.specs.Given.{given_as}
+use Rattle.ca_records.specs.Over.{IsOne, PutsOver, TakesOver, WritesOver, in_place_of}
 use Rattle.ca_records.specs.Puts.{Record, WaitingPut, with_value, written_meta}
-use Rattle.ca_records.specs.Record.{RecordState}
+use Rattle.ca_records.specs.Record.{IsRecord, RecordState}
 use Rattle.ca_records.specs.Rules.{Rule}
 use Rattle.ca_records.specs.Writes.{BeginsOn, CanPutOne, CanWriteOne, PutsOne, WritesOne, must_wait, write_fault}
+use Rattle.ca_records.proofs.Givens.{given-own, kind_of-displayed}
 use Rattle.ca_records.proofs.Steps.{Change, change, seen, seen-full, store_of}
 
 -- what waits fits a record of the same type and count
-still-fit : (s t : RecordState) → t.count ≡ s.count → base_of t.value ≡ base_of s.value → (ws : List WaitingPut) → AreFit s ws → AreFit t ws
+still-fit : (s t : RecordState) → t.count ≡ s.count → kind_of t.value ≡ kind_of s.value → (ws : List WaitingPut) → AreFit s ws → AreFit t ws
 still-fit s t count based [] fit = tt
 still-fit s t count based (w ∷ ws) fit =
     let within : count_of w.value ≤ t.count = (let most = fit.0.holds.within in omega (arith, most, count)) in (
@@ -38,9 +43,17 @@ still-fit s t count based (w ∷ ws) fit =
       still-fit s t count based ws fit.1,
     )
 
+-- what was read over the elements of a record without display data
+pub takes-over : (number : ℕ) (bytes : List ℕ) (meta : Meta) (old next : RecordState) (e : Elements) → IsRecord old → display_of old.value ≡ None → ReadsOver number bytes old.value true e → next ≡ record old { value = e; meta = meta } → TakesOver number bytes meta old true next
+takes-over number bytes meta old next e is none over set =
+    let can = over.0 in
+    let some : 1 ≤ old.count = (let one = is.value.one in let within = is.value.within in omega (arith, one, within)) in
+    let stays : e ≡ in_place_of old.value e = ap (λ (o : Option DisplayData). displayed_by o e) (sym none) in
+    (e, record { typed = can.typed; long = can.long; reads = over.1; some = some }, set ∙ ap (λ (x : Elements). record old { value = x; meta = meta }) stays)
+
 pub kept-fit : (number : ℕ) (bytes : List ℕ) (meta : Meta) (old : RecordState) (result : Bool) (new : RecordState) (ws : List WaitingPut) → TakesOver number bytes meta old result new → AreFit old ws → AreFit new ws
 kept-fit number bytes meta old true new ws over fit =
-    still-fit old new (ap (λ (s : RecordState). s.count) over.2) (ap (λ (s : RecordState). base_of s.value) over.2 ∙ over.1.reads.based) ws fit
+    still-fit old new (ap (λ (s : RecordState). s.count) over.2) (ap (λ (s : RecordState). kind_of s.value) over.2 ∙ kind_of-displayed over.0 old.value (display_of-valued over.0 over.1.reads.valued) over.1.reads.based) ws fit
 kept-fit number bytes meta old false new ws over fit = subst (λ (s : RecordState). AreFit s ws) (sym over.1) fit
 
 converted-own : (e : Elements) → converted e (base_of e) ≡ (let same : Result Elements Refusal = Ok e in same)
@@ -51,16 +64,18 @@ converted-own (enums xs) = refl
 converted-own (chars xs) = refl
 converted-own (longs xs) = refl
 converted-own (doubles xs) = refl
+converted-own (displayed d e) = ap (λ (r : Result Elements Refusal). with_data d r) (converted-own e)
 
 -- an element of the record's own type has no fault
-one-applied : (s : Stamp) (r : Record) (put : Option Put) (e : Elements) (next : Record) → base_of e ≡ base_of r.state.value → must_wait r put ≡ false → (is_some put && r.state.slow) ≡ false → next ≡ with_value e (written_meta s) r → BeginsOn s r put e (Ok (Applied false)) next
-one-applied s r put e next based free quick is =
-    let own : Result Elements Refusal = Ok e in
-    let made : converted e (base_of r.state.value) ≡ own = subst (λ (b : BaseType). converted e b ≡ own) based (converted-own e) in
+one-applied : (s : Stamp) (r : Record) (put : Option Put) (e : Elements) (next : Record) → IsValue e → base_of e ≡ base_of r.state.value → must_wait r put ≡ false → (is_some put && r.state.slow) ≡ false → next ≡ with_value (in_place_of r.state.value e) (written_meta s) r → BeginsOn s r put e (Ok (Applied false)) next
+one-applied s r put e next valued based free quick is =
+    let v : Elements = in_place_of r.state.value e in
+    let own : Result Elements Refusal = Ok v in
+    let made : given_as e (kind_of r.state.value) ≡ own = given-own e r.state.value (display_of-valued e valued) based (converted-own e) in
     let none : write_fault r put e ≡ None =
     ap (λ (c : Result Elements Refusal). put_fault c (if must_wait r put then not (nat_lt (length r.waiting) waiting_puts) else false)) made
     ∙ ap (λ (w : Bool). put_fault own (if w then not (nat_lt (length r.waiting) waiting_puts) else false)) free in
-    (e, none, made, (free, quick, is))
+    (v, none, made, (free, quick, is))
 
 pub record OverStep (slots : List RecordSlot) (free : Option ℕ) (f : List ℕ → Option ℕ) (waiting : ℕ) (rules : List Rule) (stamp : Stamp) (place : ℕ) (next : Record) (is_put : Bool) (number : ℕ) (bytes : List ℕ) (result : Bool) : Type 0 where
   pub stored : IsStored (slice_set slots place (Full next)) free f waiting
@@ -85,7 +100,7 @@ over-step slots free f waiting rules stamp place r next is_put number bytes true
         begins = λ put is. record {
           r = r;
           next = next;
-          begins = one-applied stamp r put e next based (ap (λ (b : Bool). b && is_some r.busy) is ∙ over.2) (ap (λ (b : Bool). b && r.state.slow) is ∙ over.3) over.4;
+          begins = one-applied stamp r put e next one.reads.valued based (ap (λ (b : Bool). b && is_some r.busy) is ∙ over.2) (ap (λ (b : Bool). b && r.state.slow) is ∙ over.3) over.4;
           becomes = made.becomes;
         };
       };
@@ -102,14 +117,15 @@ over-step slots free f waiting rules stamp place r next is_put number bytes fals
 
 -- ---- a put that makes its record busy
 
-put-applied : (s : Stamp) (r : Record) (put : Put) (e : Elements) (next : Record) → base_of e ≡ base_of r.state.value → r.busy ≡ None → r.state.slow ≡ true → next ≡ record (with_value e (written_meta s) r) { busy = Some put } → BeginsOn s r (Some put) e (Ok (Applied true)) next
-put-applied s r put e next based free slow is =
-    let own : Result Elements Refusal = Ok e in
-    let made : converted e (base_of r.state.value) ≡ own = subst (λ (b : BaseType). converted e b ≡ own) based (converted-own e) in
+put-applied : (s : Stamp) (r : Record) (put : Put) (e : Elements) (next : Record) → IsValue e → base_of e ≡ base_of r.state.value → r.busy ≡ None → r.state.slow ≡ true → next ≡ record (with_value (in_place_of r.state.value e) (written_meta s) r) { busy = Some put } → BeginsOn s r (Some put) e (Ok (Applied true)) next
+put-applied s r put e next valued based free slow is =
+    let v : Elements = in_place_of r.state.value e in
+    let own : Result Elements Refusal = Ok v in
+    let made : given_as e (kind_of r.state.value) ≡ own = given-own e r.state.value (display_of-valued e valued) based (converted-own e) in
     let none : write_fault r (Some put) e ≡ None =
     ap (λ (c : Result Elements Refusal). put_fault c (if is_some r.busy then not (nat_lt (length r.waiting) waiting_puts) else false)) made
     ∙ ap (λ (o : Option Put). put_fault own (if is_some o then not (nat_lt (length r.waiting) waiting_puts) else false)) free in
-    (e, none, made, (put, refl, free, slow, is))
+    (v, none, made, (put, refl, free, slow, is))
 
 pub record PutStep (slots : List RecordSlot) (free : Option ℕ) (f : List ℕ → Option ℕ) (waiting : ℕ) (rules : List Rule) (stamp : Stamp) (place : ℕ) (next : Record) (put : Put) (number : ℕ) (bytes : List ℕ) (result : Bool) : Type 0 where
   pub stored : IsStored (slice_set slots place (Full next)) free f waiting
@@ -131,7 +147,7 @@ put-step slots free f waiting rules stamp place r next put number bytes true sto
         typed = ap base_number based ∙ one.typed;
         long = subst (λ (b : BaseType). least_size b 1 ≤ length bytes) (sym based) one.long;
         reads = subst (λ (b : BaseType). ReadsElements b 1 bytes e) (sym based) one.reads;
-        begins = record { r = r; next = next; begins = put-applied stamp r put e next based over.2 over.3 over.4; becomes = made.becomes };
+        begins = record { r = r; next = next; begins = put-applied stamp r put e next one.reads.valued based over.2 over.3 over.4; becomes = made.becomes };
       };
     }
 put-step slots free f waiting rules stamp place r next put number bytes false stored full over =

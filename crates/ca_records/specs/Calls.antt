@@ -4,7 +4,8 @@ use Rattle.ca_text.specs.declared.refusal.Refusal.{Refusal}
 use Rattle.ca_text.specs.declared.refusal.Refusal.TheVariants as refusal
 use Rattle.ca_text.specs.Limits.{record_name_limit}
 use Rattle.ca_text.specs.Name.{IsName}
-use Rattle.ca_dbr.specs.Elements.{Elements, base_of, count_of}
+use Rattle.ca_dbr.specs.Elements.{Elements, count_of}
+use Rattle.ca_dbr.specs.Held.{kind_of}
 use Rattle.ca_records.specs.Puts.{Record, record_named}
 use Rattle.ca_records.specs.Record.{HoldsValue, RecordState, unset}
 
@@ -13,16 +14,16 @@ use Rattle.ca_records.specs.Record.{HoldsValue, RecordState, unset}
 abbrev pub PostFault : List Record → List ℕ → Elements → Refusal → Type 0
 PostFault records name e refusal.UnknownRecord = record_named records name ≡ None
 PostFault records name e refusal.BadType =
-    (r : Record) × (record_named records name ≡ Some r) × (base_of e ≢ base_of r.state.value)
+    (r : Record) × (record_named records name ≡ Some r) × (kind_of e ≢ kind_of r.state.value)
 PostFault records name e refusal.BadCount =
-    (r : Record) × (record_named records name ≡ Some r) × (base_of e ≡ base_of r.state.value)
+    (r : Record) × (record_named records name ≡ Some r) × (kind_of e ≡ kind_of r.state.value)
     × ((count_of e ≡ 0) ⊎ (r.state.count < count_of e))
 PostFault records name e other = ⊥
 
 -- the value is one that the record may have
 abbrev pub PostFits : List Record → List ℕ → Elements → Type 0
 PostFits records name e =
-    (r : Record) × (record_named records name ≡ Some r) × (base_of e ≡ base_of r.state.value)
+    (r : Record) × (record_named records name ≡ Some r) × (kind_of e ≡ kind_of r.state.value)
     × (0 < count_of e) × (count_of e ≤ r.state.count)
 
 -- why a record is not added: a name that is none, one that is served now, or a

@@ -6,8 +6,9 @@ use Rattle.ca_text.specs.declared.refusal.Refusal.{Refusal}
 use Rattle.ca_text.specs.declared.refusal.Refusal.TheVariants as refusal
 use Rattle.ca_text.specs.Limits.{waiting_puts}
 use Rattle.ca_text.specs.Status.{no_convert, put_fail}
-use Rattle.ca_dbr.specs.Conversion.{converted}
-use Rattle.ca_dbr.specs.Elements.{Elements, base_of}
+use Rattle.ca_dbr.specs.Elements.{Elements}
+use Rattle.ca_dbr.specs.Held.{kind_of}
+use Rattle.ca_records.specs.Given.{given_as}
 use Rattle.ca_records.specs.Record.{RecordState}
 
 -- the status of the first fault that is there
@@ -36,5 +37,5 @@ put_fault c crowded =
 -- the same for a record: a WRITE_NOTIFY that would wait finds no place while 16 wait already
 abbrev pub late_put_fault : RecordState → (must_wait : Bool) → (others : ℕ) → Elements → Option ℕ
 late_put_fault r must_wait others e =
-    put_fault (converted e (base_of r.value))
+    put_fault (given_as e (kind_of r.value))
     (if must_wait then not (nat_lt others waiting_puts) else false)

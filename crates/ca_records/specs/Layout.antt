@@ -6,7 +6,8 @@ use Rattle.ca_text.specs.declared.refusal.Refusal.{Refusal}
 use Rattle.ca_text.specs.declared.refusal.Refusal.TheVariants as refusal
 use Rattle.ca_text.specs.Limits.{element_limit}
 use Rattle.ca_text.specs.Place.{At}
-use Rattle.ca_dbr.specs.Elements.{Elements, IsValue, base_of, count_of, elements}
+use Rattle.ca_dbr.specs.Elements.{Elements, count_of, elements}
+use Rattle.ca_dbr.specs.Held.{IsHeldValue, kind_of}
 use Rattle.ca_records.specs.declared.puts.QueuedPut.{QueuedPut}
 use Rattle.ca_records.specs.Puts.{Record, WaitingPut}
 use Rattle.ca_records.specs.Record.{HoldsValue, RecordState}
@@ -18,8 +19,8 @@ waiting_put w = record { put = w.put; value = elements w.value }
 -- the value is one of the record's type that it may have
 pub record IsFit (s : RecordState) (e : Elements) : Type 0 where
   pub holds : HoldsValue s.count e
-  pub valued : IsValue e
-  pub based : base_of e ≡ base_of s.value
+  pub valued : IsHeldValue e
+  pub based : kind_of e ≡ kind_of s.value
 
 -- all that waits may be applied
 abbrev pub AreFit : RecordState → List WaitingPut → Type 0
@@ -33,14 +34,14 @@ pub record IsIndexOf (slots : List (Option Record)) (places : List ℕ → Optio
 
 -- the record may have this value by a post
 pub record MayHave (s : RecordState) (e : Elements) : Type 0 where
-  pub based : base_of e ≡ base_of s.value
+  pub based : kind_of e ≡ kind_of s.value
   pub one : 0 < count_of e
   pub within : count_of e ≤ s.count
   pub limit : s.count ≤ element_limit
 
 -- why it may not
 abbrev pub MayNotHave : RecordState → Elements → Refusal → Type 0
-MayNotHave s e refusal.BadType = base_of e ≢ base_of s.value
+MayNotHave s e refusal.BadType = kind_of e ≢ kind_of s.value
 MayNotHave s e refusal.BadCount =
-    (base_of e ≡ base_of s.value) × ((count_of e ≡ 0) ⊎ (s.count < count_of e))
+    (kind_of e ≡ kind_of s.value) × ((count_of e ≡ 0) ⊎ (s.count < count_of e))
 MayNotHave s e other = ⊥

@@ -2,6 +2,7 @@ pub mod Calls
 pub mod Chain
 pub mod Faults
 pub mod ForHistories
+pub mod Given
 pub mod Index
 pub mod Judging
 pub mod Layout

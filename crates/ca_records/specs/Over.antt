@@ -3,6 +3,7 @@ use Rattle.std.specs.Prelude.{ℕ, ◌≡◌, ◌≤◌, ◌&&◌, Bool, true, f
 use Rattle.std.specs.Prelude.{length}
 use Rattle.ca_dbr.specs.declared.value.Meta.{Meta}
 use Rattle.ca_dbr.specs.Elements.{Elements, base_of}
+use Rattle.ca_dbr.specs.Held.{display_of, displayed_by}
 use Rattle.ca_dbr.specs.Reading.{CanReadOver, ReadsElements, least_size}
 use Rattle.ca_dbr.specs.Types.{base_number}
 use Rattle.ca_records.specs.declared.puts.Put.{Put}
@@ -17,10 +18,15 @@ pub record IsOne (s : RecordState) (number : ℕ) (bytes : List ℕ) (e : Elemen
   pub reads : ReadsElements (base_of s.value) 1 bytes e
   pub some : 1 ≤ s.count
 
+-- an element in place of this value, whose display data stay
+abbrev pub in_place_of : Elements → Elements → Elements
+in_place_of old e = displayed_by (display_of old) e
+
 -- the record's value is that element, with this metadata; or that cannot be, and all stays
 abbrev pub TakesOver : (number : ℕ) → List ℕ → Meta → RecordState → Bool → RecordState → Type 0
 TakesOver number bytes meta old true new =
-    (e : Elements) × IsOne old number bytes e × (new ≡ record old { value = e; meta = meta })
+    (e : Elements) × IsOne old number bytes e
+    × (new ≡ record old { value = in_place_of old.value e; meta = meta })
 TakesOver number bytes meta old false new = (CanReadOver number bytes old.value → ⊥) × (new ≡ old)
 
 -- the same by a write, which neither waits nor makes the record busy
@@ -28,7 +34,8 @@ abbrev pub WritesOver : Stamp → Record → (is_put : Bool) → (number : ℕ) 
     → Type 0
 WritesOver s r is_put number bytes true next =
     (e : Elements) × IsOne r.state number bytes e × ((is_put && is_some r.busy) ≡ false)
-    × ((is_put && r.state.slow) ≡ false) × (next ≡ with_value e (written_meta s) r)
+    × ((is_put && r.state.slow) ≡ false)
+    × (next ≡ with_value (in_place_of r.state.value e) (written_meta s) r)
 WritesOver s r is_put number bytes false next =
     ((is_put && is_some r.busy) ≡ false → (is_put && r.state.slow) ≡ false
     → CanReadOver number bytes r.state.value → ⊥) × (next ≡ r)
@@ -37,6 +44,7 @@ WritesOver s r is_put number bytes false next =
 abbrev pub PutsOver : Stamp → Record → Put → (number : ℕ) → List ℕ → Bool → Record → Type 0
 PutsOver s r p number bytes true next =
     (e : Elements) × IsOne r.state number bytes e × (r.busy ≡ None) × (r.state.slow ≡ true)
-    × (next ≡ record (with_value e (written_meta s) r) { busy = Some p })
+    × (next
+    ≡ record (with_value (in_place_of r.state.value e) (written_meta s) r) { busy = Some p })
 PutsOver s r p number bytes false next =
     (r.busy ≡ None → r.state.slow ≡ true → CanReadOver number bytes r.state.value → ⊥) × (next ≡ r)

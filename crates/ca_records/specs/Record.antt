@@ -5,7 +5,8 @@ use Rattle.ca_text.specs.declared.refusal.Refusal.TheVariants.{BadCount, NameLen
 use Rattle.ca_text.specs.Limits.{element_limit, record_name_limit}
 use Rattle.ca_text.specs.Name.{IsName}
 use Rattle.ca_dbr.specs.declared.value.Meta.{Meta}
-use Rattle.ca_dbr.specs.Elements.{Elements, IsValue, count_of}
+use Rattle.ca_dbr.specs.Elements.{Elements, count_of}
+use Rattle.ca_dbr.specs.Held.{IsHeldValue}
 use Rattle.ca_dbr.specs.Reading.{IsMeta}
 
 pub record RecordState : Type 0 where
@@ -14,7 +15,8 @@ pub record RecordState : Type 0 where
   pub count : ℕ
   -- a put with notification makes it busy
   pub slow : Bool
-  -- the present value: elements of the record's type, as many as were written last
+  -- the present value: elements of the record's type, as many as were written last, with its
+  -- display data if it has some
   pub value : Elements
   -- its alarm and its stamp
   pub meta : Meta
@@ -33,7 +35,7 @@ pub record IsRecord (r : RecordState) : Type 0 where
   pub name : IsName record_name_limit r.name
   pub value : HoldsValue r.count r.value
   -- each element is one of the record's type, and each field of the metadata is in its range
-  pub valued : IsValue r.value
+  pub valued : IsHeldValue r.value
   pub meta : IsMeta r.meta
 
 -- No record has this name, or none has this name and holds this value under this count, and

@@ -6,8 +6,8 @@ use Rattle.std.specs.Prelude.{slice_get}
 use Rattle.std.specs.declared.alloc.AllocError.{AllocError}
 use Rattle.ca_arena.specs.declared.handle.Handle.{Handle}
 use Rattle.ca_dbr.specs.declared.value.Meta.{Meta}
-use Rattle.ca_dbr.specs.Conversion.{converted}
 use Rattle.ca_dbr.specs.Elements.{Elements, base_of}
+use Rattle.ca_dbr.specs.Held.{kind_of}
 use Rattle.ca_dbr.specs.Reading.{CanReadOver, ReadsElements, least_size}
 use Rattle.ca_dbr.specs.Types.{base_number}
 use Rattle.ca_ids.specs.Table.{same_handle}
@@ -19,6 +19,7 @@ use Rattle.ca_records.specs.declared.puts.Begun.TheVariants.{Applied, Refused, W
 use Rattle.ca_records.specs.declared.puts.Finished.{Finished}
 use Rattle.ca_records.specs.Calls.{AddFault, MayAdd, PostFault, PostFits}
 use Rattle.ca_records.specs.Faults.{late_put_fault}
+use Rattle.ca_records.specs.Given.{given_as}
 use Rattle.ca_records.specs.declared.puts.Put.{Put}
 use Rattle.ca_records.specs.declared.puts.Stamp.{Stamp}
 use Rattle.ca_records.specs.Puts.{Record, WaitingPut, finished, new_record, record_named, removed}
@@ -61,7 +62,7 @@ abbrev pub BeginsOn : Stamp → Record → Option Put → Elements → Result Be
 BeginsOn s r put e (Ok (Refused status)) next =
     (write_fault r put e ≡ Some status.number) × (next ≡ r)
 BeginsOn s r put e (Ok begun) next =
-    (v : Elements) × (write_fault r put e ≡ None) × (converted e (base_of r.state.value) ≡ Ok v)
+    (v : Elements) × (write_fault r put e ≡ None) × (given_as e (kind_of r.state.value) ≡ Ok v)
     × Takes s r put v begun next
 BeginsOn s r put e (Err lack) next = (write_fault r put e ≡ None) × NeedsMemory r put e × (next ≡ r)
 

@@ -32,6 +32,11 @@ impl Model for Record {
 
     ghost Value = { RecordState };
 
+    ghost use Rattle.std.specs.Coded.{codes};
+    ghost use Rattle.ca_dbr.specs.Codes.{elements_code};
+
+    ghost coded = { Prim.hlevel (codes, elements_code) };
+
     ghost view = { λ r.
         record {
           name = r.name.items;

@@ -32,6 +32,11 @@ impl Model for Records {
 
     ghost Value = { List RecordState };
 
+    ghost use Rattle.std.specs.Coded.{codes};
+    ghost use Rattle.ca_dbr.specs.Codes.{elements_code};
+
+    ghost coded = { Prim.hlevel (codes, elements_code) };
+
     ghost view = { λ r. r.list.items };
 
     ghost invariant = { λ r. IsIndex r.list.items (place_of (λ k. k.items) r.places.entries) };

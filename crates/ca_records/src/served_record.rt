@@ -38,6 +38,11 @@ impl Model for ServedRecord {
 
     ghost Value = { puts.Record };
 
+    ghost use Rattle.std.specs.Coded.{codes};
+    ghost use Rattle.ca_dbr.specs.Codes.{elements_code};
+
+    ghost coded = { Prim.hlevel (codes, elements_code) };
+
     ghost use Rattle.ca_records.specs.Layout.{AreFit, waiting_put};
 
     ghost view = { λ r.

@@ -40,6 +40,11 @@ impl Model for ServedRecords {
 
     ghost Value = { Store };
 
+    ghost use Rattle.std.specs.Coded.{codes};
+    ghost use Rattle.ca_dbr.specs.Codes.{elements_code};
+
+    ghost coded = { Prim.hlevel (codes, elements_code) };
+
     ghost use Rattle.ca_records.specs.Chain.{IsStored, record_in};
     ghost use Rattle.ca_records.specs.Index.{place_in};
 

@@ -7,7 +7,7 @@ use Rattle.ca_text.specs.Name.{IsName}
 use Rattle.ca_text.specs.Limits.{record_name_limit}
 use Rattle.ca_dbr.specs.declared.data_type.BaseType.{BaseType}
 use Rattle.ca_dbr.specs.declared.data_type.BaseType.TheVariants as base
-use Rattle.ca_dbr.specs.Elements.{Elements, strings, ints, floats, enums, chars, longs, doubles, base_of, count_of}
+use Rattle.ca_dbr.specs.Elements.{Elements, strings, ints, floats, enums, chars, longs, doubles, displayed, base_of, count_of}
 use Rattle.ca_records.specs.Record.{HoldsValue, RecordState, unset}
 use Rattle.ca_records.specs.Records.{Defines}
 use Rattle.ca_script.specs.Grammar.{AreNumbers, IsNumber, parted}
@@ -143,6 +143,7 @@ count-of-words words (enums xs) h = each-length IsEnum words xs h
 count-of-words words (chars xs) h = each-length IsChar words xs h
 count-of-words words (longs xs) h = each-length IsLong words xs h
 count-of-words words (doubles xs) h = each-length IsDouble words xs h
+count-of-words words (displayed d e) h = absurd h
 
 same-length : (words : List (List ℕ)) (u v : Elements) → AreElements words u → AreElements words v → count_of u ≡ count_of v
 same-length words u v a b = count-of-words words u a ∙ sym (count-of-words words v b)

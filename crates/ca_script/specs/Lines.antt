@@ -9,7 +9,7 @@ use Rattle.ca_text.specs.Limits.{payload_limit}
 use Rattle.ca_dbr.specs.declared.data_type.BaseType.{BaseType}
 use Rattle.ca_dbr.specs.declared.data_type.BaseType.TheVariants as base
 use Rattle.ca_dbr.specs.Elements.{Elements, strings, ints, floats, enums, chars, longs, doubles}
-use Rattle.ca_dbr.specs.Elements.{base_of, bytes_4, bytes_8}
+use Rattle.ca_dbr.specs.Elements.{displayed, base_of, bytes_4, bytes_8}
 use Rattle.ca_records.specs.Record.{IsRecord, RecordState, unset}
 use Rattle.ca_records.specs.Records.{IsServed}
 use Rattle.ca_records.specs.Rules.{Rule}
@@ -87,6 +87,7 @@ AreElements words (enums xs) = AreEach IsEnum words xs
 AreElements words (chars xs) = AreEach IsChar words xs
 AreElements words (longs xs) = AreEach IsLong words xs
 AreElements words (doubles xs) = AreEach IsDouble words xs
+AreElements words (displayed d e) = ⊥
 
 abbrev pub type_word : BaseType → List ℕ
 type_word base.String = codes "STRING"

@@ -19,12 +19,14 @@ use Rattle.ca_arena.specs.Arena.{Place, blank, place_at}
 use Rattle.ca_dbr.specs.declared.data_type.BaseType.{BaseType}
 use Rattle.ca_dbr.specs.declared.data_type.DataType.{DataType}
 use Rattle.ca_dbr.specs.Conversion.{converted}
-use Rattle.ca_dbr.specs.Elements.{Elements, base_of, count_of}
+use Rattle.ca_dbr.specs.Elements.{Elements, count_of}
+use Rattle.ca_dbr.specs.Held.{kind_of}
 use Rattle.ca_dbr.specs.Image.{image}
 use Rattle.ca_ids.specs.Table.{MayGive, Table, by_wire, has_free, held, is_full, same_handle}
 use Rattle.ca_ids.specs.Wire.{wire_of}
 use Rattle.ca_records.specs.declared.puts.Put.{Put}
 use Rattle.ca_records.specs.Faults.{first_fault, has_misfit, lacks_conversion}
+use Rattle.ca_records.specs.Given.{given_as}
 use Rattle.ca_records.specs.Puts.{Record, record_named, with_record, with_value, with_waiting, withdrawn, written_meta}
 use Rattle.ca_records.specs.Record.{RecordState}
 use Rattle.ca_records.specs.Rules.{may_read, rights}
@@ -118,7 +120,7 @@ late-of : (k : Knows) (m : Fields) (c : Serves k m.p1) (e : Elements) → early_
 late-of k m c e early reads (Some st) late = inl (st, inr (early, (e, reads, late)))
 late-of k m c e early reads None late =
     let ok = faultless-3 _ _ _ _ _ _ late in
-    let x = shown-ok (converted e (base_of c.known.state.value)) ok.0 ok.1 in
+    let x = shown-ok (given_as e (kind_of c.known.state.value)) ok.0 ok.1 in
     inr (x.0, record { elements = e; early = early; reads = reads; late = late; is = x.1 })
 
 outcome : (k : Knows) (m : Fields) (c : Serves k m.p1) → AreBytes m.payload → (o : Option BaseType) → base_type_of m.data_type ≡ o → (f : Option ℕ) → early_fault k m c ≡ f → ((status : ℕ) × PutRefused k m c status) ⊎ ((value : Elements) × PutTaken k m c value)

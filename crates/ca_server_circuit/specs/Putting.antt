@@ -1,7 +1,8 @@
 -- Working: what a write to the record at a place comes to.
 use Rattle.std.specs.Prelude.{ℕ, List, ◌≡◌, ◌<◌, ◌≤◌, ◌⊎◌, Some, None, Ok, Option}
-use Rattle.ca_dbr.specs.Conversion.{converted}
-use Rattle.ca_dbr.specs.Elements.{Elements, base_of, count_of, elements}
+use Rattle.ca_dbr.specs.Elements.{Elements, count_of, elements}
+use Rattle.ca_dbr.specs.Held.{kind_of}
+use Rattle.ca_records.specs.Given.{given_as}
 use Rattle.ca_records.specs.declared.puts.Begun.{Begun}
 use Rattle.ca_records.specs.declared.puts.Begun.TheVariants.{Refused}
 use Rattle.ca_records.specs.declared.puts.Put.{Put}
@@ -43,7 +44,7 @@ pub record IsTaken (s : Store) (r : Record) (rights : ℕ) (put : Option Put) (m
   pub reads : PutReads m e
   pub no_late : write_fault r put e ≡ None
   pub v : Elements
-  pub is : converted e (base_of r.state.value) ≡ Ok v
+  pub is : given_as e (kind_of r.state.value) ≡ Ok v
   pub takes : Takes s.stamp r put v begun next
 
 -- A write of this message to this record was refused by this status.

@@ -55,6 +55,11 @@ impl Model for Circuit {
 
     ghost Value = { ServerCircuit };
 
+    ghost use Rattle.std.specs.Coded.{codes};
+    ghost use Rattle.ca_dbr.specs.Codes.{elements_code};
+
+    ghost coded = { Prim.hlevel (codes, elements_code) };
+
     ghost use Rattle.ca_server_circuit.specs.Circuits.{circuit_of};
 
     ghost view = { λ c. circuit_of c.state };

@@ -35,6 +35,11 @@ impl Model for End {
 
     ghost Value = { ServerEnd };
 
+    ghost use Rattle.std.specs.Coded.{codes};
+    ghost use Rattle.ca_dbr.specs.Codes.{elements_code};
+
+    ghost coded = { Prim.hlevel (codes, elements_code) };
+
     ghost view = { λ e.
         record {
           link = e.link;

@@ -44,6 +44,11 @@ impl Model for ServerCore {
 
     ghost Value = { Server };
 
+    ghost use Rattle.std.specs.Coded.{codes};
+    ghost use Rattle.ca_dbr.specs.Codes.{elements_code};
+
+    ghost coded = { Prim.hlevel (codes, elements_code) };
+
     ghost use Rattle.ca_records.specs.Store.{records_of};
     ghost use Rattle.ca_server_core.specs.Covering.{IsServer};
 

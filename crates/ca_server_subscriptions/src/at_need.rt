@@ -42,6 +42,11 @@ impl Model for SubscriptionsAtNeed {
 
     ghost Value = { Subscribed };
 
+    ghost use Rattle.std.specs.Coded.{codes};
+    ghost use Rattle.ca_dbr.specs.Codes.{elements_code};
+
+    ghost coded = { Prim.hlevel (codes, elements_code) };
+
     ghost use Rattle.ca_server_subscriptions.specs.AtNeed.{subscribed_of};
 
     ghost view = { λ s. subscribed_of (option_map (λ b. b.value) s.kept) s.events_on };

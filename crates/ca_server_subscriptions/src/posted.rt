@@ -24,6 +24,11 @@ impl<'a> Model for Posted<'a> {
 
     ghost Value = { Stored };
 
+    ghost use Rattle.std.specs.Coded.{codes};
+    ghost use Rattle.ca_dbr.specs.Codes.{elements_code};
+
+    ghost coded = { Prim.hlevel (codes, elements_code) };
+
     ghost use Rattle.std.specs.Prelude.{◌≤◌, option_map};
     ghost use Rattle.std.specs.Arc.{arc_value};
     ghost use Rattle.ca_text.specs.Limits.{element_limit};

@@ -31,6 +31,11 @@ impl Model for SharedUpdate {
 
     ghost Value = { Shared };
 
+    ghost use Rattle.std.specs.Coded.{codes};
+    ghost use Rattle.ca_dbr.specs.Codes.{elements_code};
+
+    ghost coded = { Prim.hlevel (codes, elements_code) };
+
     ghost use Rattle.std.specs.Prelude.{◌≤◌};
     ghost use Rattle.ca_text.specs.Limits.{element_limit};
     ghost use Rattle.ca_dbr.specs.Elements.{count_of, elements};

@@ -61,6 +61,11 @@ impl Model for Subscriptions {
 
     ghost Value = { Subscribed };
 
+    ghost use Rattle.std.specs.Coded.{codes};
+    ghost use Rattle.ca_dbr.specs.Codes.{elements_code};
+
+    ghost coded = { Prim.hlevel (codes, elements_code) };
+
     ghost use Rattle.ca_server_subscriptions.specs.ByRecord.{AreByRecord, IsOnlyOne};
     ghost use Rattle.ca_server_subscriptions.specs.ByChannel.{AreByChannel};
     ghost use Rattle.ca_server_subscriptions.specs.Subscribed.{AreAskable, ArePlaced};

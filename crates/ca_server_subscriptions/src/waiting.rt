@@ -62,6 +62,11 @@ impl Model for Waiting {
 
     ghost Value = { List (Queue Stored) };
 
+    ghost use Rattle.std.specs.Coded.{codes};
+    ghost use Rattle.ca_dbr.specs.Codes.{elements_code};
+
+    ghost coded = { Prim.hlevel (codes, elements_code) };
+
     ghost use Rattle.ca_server_subscriptions.specs.Owing.{IsOwing, with_owed};
 
     ghost view = { λ w. with_owed w.owed.items w.update w.queues };

@@ -1,11 +1,13 @@
 -- What a server refuses of its records whatever memory there is, and what it takes.
-use Rattle.std.proofs.Common.{◌≡◌, ◌≢◌, ℕ, ◌<◌, ◌≤◌, ◌⊎◌, inl, inr, Bool, true, false, List, Option, Some, None, Result, Ok, Err, arith, refl, sym, subst}
+use Rattle.std.proofs.Common.{◌≡◌, ◌≢◌, ◌∙◌, ℕ, ◌<◌, ◌≤◌, ◌⊎◌, inl, inr, Bool, true, false, List, Option, Some, None, Result, Ok, Err, ap, arith, refl, sym, subst}
 use Rattle.std.specs.Prelude.{IsErrAnd, is_some}
 use Rattle.ca_arena.specs.declared.handle.Handle.{Handle}
 use Rattle.ca_dbr.specs.Elements.{Elements, base_of, count_of}
+use Rattle.ca_dbr.specs.Held.{display_of, kind_of}
 use Rattle.ca_records.specs.Calls.{AddFault, MayAdd, PostFault, PostFits}
 use Rattle.ca_records.specs.Puts.{Record, record_named}
 use Rattle.ca_records.specs.Record.{HoldsValue, RecordState, unset}
+use Rattle.ca_records.proofs.Givens.{kind_of-alone, other-kind}
 use Rattle.ca_server_core.specs.Asking.{state_in}
 use Rattle.ca_text.specs.declared.refusal.Refusal.{Refusal}
 use Rattle.ca_text.specs.declared.refusal.Refusal.TheVariants.{BadCount, BadType, NameLength, OutOfMemory, RecordExists, UnknownRecord}
@@ -39,28 +41,33 @@ no-one (Some r) is = absurd cc
 
 -- ---- posts
 
-pub post-fits : (rs : List Record) (name : List ℕ) (e : Elements) (s : RecordState) → Some s ≡ state_in (record_named rs name) → (base_of e ≡ base_of s.value) × (0 < count_of e) × (count_of e ≤ s.count) → PostFits rs name e
-post-fits rs name e s is fits =
-    let r = named (record_named rs name) s is in
-    let are = subst (λ (z : RecordState). (base_of e ≡ base_of z.value) × (0 < count_of e) × (count_of e ≤ z.count)) (sym r.2) fits in
-    (r.0, r.1, are.0, are.1, are.2)
+-- a post in place of this value, which the record has under this greatest count
+module _ (rs : List Record) (name : List ℕ) (e v : Elements) (n : ℕ) (s : RecordState) (there : Some s ≡ state_in (record_named rs name)) (held : v ≡ s.value) (counted : n ≡ s.count) where
+  abbrev Kept : Type 0
+  Kept = (r : Record) × (record_named rs name ≡ Some r) × (v ≡ r.state.value) × (n ≡ r.state.count)
 
-pub post-faults : (rs : List Record) (name : List ℕ) (e : Elements) (s : RecordState) → Some s ≡ state_in (record_named rs name)
-    → (base_of e ≢ base_of s.value) ⊎ ((base_of e ≡ base_of s.value) × ((count_of e ≡ 0) ⊎ (s.count < count_of e))) → (f : Refusal) × PostFault rs name e f
-post-faults rs name e s is fault =
-    let r = named (record_named rs name) s is in
-    go r.0 r.1
-    (subst (λ (z : RecordState). (base_of e ≢ base_of z.value) ⊎ ((base_of e ≡ base_of z.value) × ((count_of e ≡ 0) ⊎ (z.count < count_of e)))) (sym r.2) fault)
-  where
-    go : (r : Record) → record_named rs name ≡ Some r → (base_of e ≢ base_of r.state.value) ⊎ ((base_of e ≡ base_of r.state.value) × ((count_of e ≡ 0) ⊎ (r.state.count < count_of e))) → (f : Refusal) × PostFault rs name e f
-    go r there (inl other) = (BadType, (r, there, other))
-    go r there (inr (same, count)) = (BadCount, (r, there, same, count))
+  kept : Kept
+  kept = (let r = named (record_named rs name) s there in (r.0, r.1, held ∙ sym (ap (λ (z : RecordState). z.value) r.2), counted ∙ sym (ap (λ (z : RecordState). z.count) r.2)))
 
-pub post-judged : (rs : List Record) (name : List ℕ) (e : Elements) (s : RecordState) (b : Bool) → Some s ≡ state_in (record_named rs name)
-    → (b ≡ true → (base_of e ≡ base_of s.value) × (0 < count_of e) × (count_of e ≤ s.count))
-    → (b ≡ false → (base_of e ≢ base_of s.value) ⊎ ((base_of e ≡ base_of s.value) × ((count_of e ≡ 0) ⊎ (s.count < count_of e)))) → JudgesPost rs name e b
-post-judged rs name e s true is fits faults = post-fits rs name e s is (fits refl)
-post-judged rs name e s false is fits faults = post-faults rs name e s is (faults refl)
+  post-fits : Kept → (kind_of e ≡ kind_of v) × (0 < count_of e) × (count_of e ≤ n) → PostFits rs name e
+  post-fits (r, is, value, count) (kind, some, few) =
+      (r, is, kind ∙ ap (λ (x : Elements). kind_of x) value, some, subst (λ (k : ℕ). count_of e ≤ k) count few)
+
+  post-faults : Kept → (kind_of e ≢ kind_of v) ⊎ ((kind_of e ≡ kind_of v) × ((count_of e ≡ 0) ⊎ (n < count_of e))) → (f : Refusal) × PostFault rs name e f
+  post-faults (r, is, value, count) (inl other) = (BadType, (r, is, subst (λ (x : Elements). kind_of e ≢ kind_of x) value other))
+  post-faults (r, is, value, count) (inr (kind, fault)) =
+      (BadCount, (r, is, kind ∙ ap (λ (x : Elements). kind_of x) value, subst (λ (k : ℕ). (count_of e ≡ 0) ⊎ (k < count_of e)) count fault))
+
+  -- neither has display data
+  module _ (none : display_of e ≡ None) (own : display_of v ≡ None) where
+    as-kinds : (base_of e ≢ base_of v) ⊎ ((base_of e ≡ base_of v) × ((count_of e ≡ 0) ⊎ (n < count_of e))) → (kind_of e ≢ kind_of v) ⊎ ((kind_of e ≡ kind_of v) × ((count_of e ≡ 0) ⊎ (n < count_of e)))
+    as-kinds (inl other) = inl (other-kind e v other)
+    as-kinds (inr (based, fault)) = inr (kind_of-alone e v none own based, fault)
+
+    pub post-judged : (b : Bool) → (b ≡ true → (base_of e ≡ base_of v) × (0 < count_of e) × (count_of e ≤ n))
+        → (b ≡ false → (base_of e ≢ base_of v) ⊎ ((base_of e ≡ base_of v) × ((count_of e ≡ 0) ⊎ (n < count_of e)))) → JudgesPost rs name e b
+    post-judged true fits faults = (let f = fits refl in post-fits kept (kind_of-alone e v none own f.0, f.1, f.2))
+    post-judged false fits faults = post-faults kept (as-kinds (faults refl))
 
 pub post-unknown : (rs : List Record) (name : List ℕ) (e : Elements) → None ≡ state_in (record_named rs name) → (f : Refusal) × PostFault rs name e f
 post-unknown rs name e none = (UnknownRecord, unnamed (record_named rs name) none)

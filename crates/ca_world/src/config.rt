@@ -20,6 +20,11 @@ impl Model for Config {
 
     ghost Value = { Setting };
 
+    ghost use Rattle.std.specs.Coded.{codes};
+    ghost use Rattle.ca_dbr.specs.Codes.{elements_code};
+
+    ghost coded = { Prim.hlevel (codes, elements_code) };
+
     ghost view = { λ c. record { clients = c.clients.items; servers = c.servers.items } };
 
     ghost invariant = { λ c.

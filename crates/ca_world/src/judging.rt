@@ -9,7 +9,6 @@ ghost use Rattle.ca_text.specs.Name.{IsName};
 ghost use Rattle.ca_world.specs.Judging.{JudgesAdd, JudgesPost};
 
 use ca_dbr::Value;
-use ca_records::Record;
 use ca_server_core::ServerCore;
 use ca_text::{ELEMENT_LIMIT, RecordName};
 
@@ -28,29 +27,27 @@ pub(crate) fn takes_post(core: &ServerCore, name: &[u8], value: &Value) -> bool
     ensures { JudgesPost core.now.records name.now (elements value.now) result }
 {
     match core.record(name) {
-        Some(kept) => may_have(kept, value),
+        Some(kept) => fits_in(kept.value(), kept.count(), value),
         None => false,
     }
 }
 
-// Whether the record may have this value by a post: of its type, with one element to the greatest
-// count.
-fn may_have(kept: &Record, value: &Value) -> bool
+// Whether a value may come in place of this one by a post: of its type, with one element to the
+// greatest count.
+fn fits_in(kept: &Value, count: u32, value: &Value) -> bool
     ensures fits { result ≡ true
-        → (base_of (elements value.now) ≡ base_of kept.now.value)
-        × (0 < count_of (elements value.now))
-        × (count_of (elements value.now) ≤ kept.now.count) }
+        → (base_of (elements value.now) ≡ base_of (elements kept.now))
+        × (0 < count_of (elements value.now)) × (count_of (elements value.now) ≤ count) }
     ensures faults { result ≡ false
-        → (base_of (elements value.now) ≢ base_of kept.now.value)
-        ⊎ ((base_of (elements value.now) ≡ base_of kept.now.value)
-        × ((count_of (elements value.now) ≡ 0)
-        ⊎ (kept.now.count < count_of (elements value.now)))) }
+        → (base_of (elements value.now) ≢ base_of (elements kept.now))
+        ⊎ ((base_of (elements value.now) ≡ base_of (elements kept.now))
+        × ((count_of (elements value.now) ≡ 0) ⊎ (count < count_of (elements value.now)))) }
 {
-    if value.base_type() != kept.value().base_type() {
+    if value.base_type() != kept.base_type() {
         return false;
     }
     let present = value.count();
-    if present == 0 || present > kept.count() as usize {
+    if present == 0 || present > count as usize {
         return false;
     }
     true

@@ -34,8 +34,9 @@ impl Model for World {
 
     ghost use Rattle.std.specs.Coded.{codes};
     ghost use Rattle.ca_client_core.specs.Codes.{servers_code};
+    ghost use Rattle.ca_dbr.specs.Codes.{elements_code};
 
-    ghost coded = { Prim.hlevel (codes, servers_code) };
+    ghost coded = { Prim.hlevel (codes, servers_code, elements_code) };
 
     ghost view = { seen };
 

@@ -62,6 +62,11 @@ impl Model for ServerSetting {
 
     ghost Value = { world.ServerSetting };
 
+    ghost use Rattle.std.specs.Coded.{codes};
+    ghost use Rattle.ca_dbr.specs.Codes.{elements_code};
+
+    ghost coded = { Prim.hlevel (codes, elements_code) };
+
     ghost use Rattle.std.specs.Prelude.{map};
     ghost use Rattle.ca_world_data.specs.Settings.{IsServer, rule_of};
 

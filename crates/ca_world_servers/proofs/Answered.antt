@@ -7,9 +7,8 @@ use Rattle.ca_dbr.specs.declared.data_type.DataType.{DataType}
 use Rattle.ca_dbr.specs.Elements.{Elements, count_of}
 use Rattle.ca_dbr.specs.Image.{image}
 use Rattle.ca_dbr.specs.Types.{size_of_image, type_number}
-use Rattle.ca_dbr.proofs.OneReading.{length-image}
+use Rattle.ca_dbr.proofs.Helds.{length-held, shown-held}
 use Rattle.ca_dbr.proofs.Shows.{shown-is}
-use Rattle.ca_dbr.proofs.Valued.{shown-valued}
 use Rattle.ca_ids.specs.Table.{under}
 use Rattle.ca_records.specs.Puts.{Record, record_named}
 use Rattle.ca_records.specs.Record.{IsRecord, RecordState}
@@ -197,7 +196,7 @@ module _ (r : RecordState) (m : Fields) (t : DataType) (size : ℕ) (numbered : 
   sized-shown record_is rights u e typed none shows =
       let kind = shown-is r.value (read_count r m) u.base e shows in
       let len : length (image u e r.meta) ≡ size_of_image u (read_count r m) =
-      length-image u e r.meta (sym kind.0) (shown-valued r.value (read_count r m) u.base e record_is.valued shows) ∙ ap (λ (n : ℕ). size_of_image u n) kind.1 in
+      length-held u e r.meta (sym kind.0) (shown-held r.value (read_count r m) u.base e record_is.valued shows) ∙ ap (λ (n : ℕ). size_of_image u n) kind.1 in
       let one : size ≡ size_of_image u (read_count r m) = is ∙ ap (λ (x : DataType). size_of_image x (read_count r m)) (same-type u typed) in
       let all = length-padded (image u e r.meta) in
       omega (arith, len, one, all)

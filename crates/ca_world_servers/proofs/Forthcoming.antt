@@ -9,12 +9,15 @@ use Rattle.ca_dbr.specs.declared.data_type.Form.TheVariants as form
 use Rattle.ca_dbr.specs.declared.value.Meta.{Meta}
 use Rattle.ca_dbr.specs.Conversion.{Fails, converted}
 use Rattle.ca_dbr.specs.Elements.{Elements, base_of, elements}
+use Rattle.ca_dbr.specs.Held.{display_of}
 use Rattle.ca_dbr.specs.Reading.{ReadRefused, Reads, ReadsElements}
 use Rattle.ca_dbr.specs.Types.{base_number, type_number}
+use Rattle.ca_dbr.proofs.Helds.{display_of-valued}
 use Rattle.ca_dbr.proofs.OneReading.{base_number-small, reads-one, type_number-one}
 use Rattle.ca_ids.specs.Table.{under}
 use Rattle.ca_records.specs.Puts.{Record, record_named}
 use Rattle.ca_records.specs.Record.{RecordState}
+use Rattle.ca_records.proofs.Givens.{given-alone}
 use Rattle.ca_text.proofs.Places.{some_is}
 use Rattle.ca_text.specs.declared.refusal.Refusal.{Refusal}
 use Rattle.ca_text.specs.declared.refusal.Refusal.TheVariants as refusal
@@ -117,10 +120,11 @@ find-holds test (y ∷ ys) x e = go (test y) refl (find-holds test ys x) e
 typed-number : (n : ℕ) (b : BaseType) → base_type_of n ≡ Some b → base_number b ≡ n
 typed-number n b is = eqb-true (base_number b) n (find-holds (λ (c : BaseType). base_number c == n) base_types b is)
 
--- a write that is taken writes what its message gives
-taken-gives : (m : Fields) (base : BaseType) (found : Option Elements) → GivesValue m base found → (k : Knows) (c : Serves k m.p1) (v : Elements) → PutTaken k m c v → base_of c.known.state.value ≡ base → found ≡ Some v
-taken-gives m base found gives k c v taken is =
-    gives taken.reads.base taken.elements v (typed-number m.data_type taken.reads.base taken.reads.typed) taken.reads.reads (subst (λ (b : BaseType). converted taken.elements b ≡ Ok v) is taken.is)
+-- a write that is taken by a record without display data writes what its message gives
+taken-gives : (m : Fields) (base : BaseType) (found : Option Elements) → GivesValue m base found → (k : Knows) (c : Serves k m.p1) (v : Elements) → PutTaken k m c v → base_of c.known.state.value ≡ base → display_of c.known.state.value ≡ None → found ≡ Some v
+taken-gives m base found gives k c v taken is none =
+    let made : converted taken.elements (base_of c.known.state.value) ≡ Ok v = sym (given-alone taken.elements c.known.state.value (display_of-valued taken.elements taken.reads.reads.valued) none) ∙ taken.is in
+    gives taken.reads.base taken.elements v (typed-number m.data_type taken.reads.base taken.reads.typed) taken.reads.reads (subst (λ (b : BaseType). converted taken.elements b ≡ Ok v) is made)
 
 state-known : (o : Option Record) (k : KnownRecord) → option_map known_record o ≡ Some k → state_in o ≡ Some k.state
 state-known None k is = absurd cc
@@ -150,12 +154,15 @@ module _ (core : Server) (h : Handle) (m : Fields) where
       based : (e : ServerEnd) → HasEnd core h e → (c : Serves (knows core e) m.p1) → base_of c.known.state.value ≡ base_of s.value
       based e has c = ap (λ (z : RecordState). base_of z.value) (sym (same-state e has c))
 
-      pub none-given : GivesValue m (base_of s.value) None → Foresees core h m None
-      none-given gives e has c v taken = (let wrong = taken-gives m (base_of s.value) None gives (knows core e) c v taken (based e has c) in absurd cc)
+      alone : display_of s.value ≡ None → (e : ServerEnd) → HasEnd core h e → (c : Serves (knows core e) m.p1) → display_of c.known.state.value ≡ None
+      alone none e has c = ap (λ (z : RecordState). display_of z.value) (sym (same-state e has c)) ∙ none
 
-      pub write-given : (w : Coming) → w.name.items ≡ name → w.busies ≡ busies_by m s → GivesValue m (base_of s.value) (Some (elements w.value)) → Foresees core h m (Some w)
-      write-given w is busy gives e has c v taken = (
+      pub none-given : display_of s.value ≡ None → GivesValue m (base_of s.value) None → Foresees core h m None
+      none-given none gives e has c v taken = (let wrong = taken-gives m (base_of s.value) None gives (knows core e) c v taken (based e has c) (alone none e has c) in absurd cc)
+
+      pub write-given : (w : Coming) → w.name.items ≡ name → w.busies ≡ busies_by m s → display_of s.value ≡ None → GivesValue m (base_of s.value) (Some (elements w.value)) → Foresees core h m (Some w)
+      write-given w is busy none gives e has c v taken = (
         served-name core h m name named e has c ∙ sym is,
-        sym (some_is (elements w.value) v (taken-gives m (base_of s.value) (Some (elements w.value)) gives (knows core e) c v taken (based e has c))),
+        sym (some_is (elements w.value) v (taken-gives m (base_of s.value) (Some (elements w.value)) gives (knows core e) c v taken (based e has c) (alone none e has c))),
         busy ∙ ap (λ (z : RecordState). busies_by m z) (same-state e has c),
       )

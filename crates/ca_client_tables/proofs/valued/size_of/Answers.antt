@@ -9,4 +9,4 @@ returns c =
     let e = elements c.args.value.now in
     ap (λ (n : ℕ). n * c.element_size.result) c.count.ensures
     ∙ ap (λ (n : ℕ). count_of e * n) (c.element_size.ensures ∙ ap element_size c.base_type.ensures)
-    ∙ sym (length-bytes_of e c.know.ensures)
+    ∙ sym (length-bytes_of e c.know.ensures.valued)

@@ -10,7 +10,7 @@ use Rattle.ca_server_circuit.proofs.read.show.Goals as goal
 
 pub queue_made-requires-clause-sized : goal.queue_made-requires-clause-sized
 queue_made-requires-clause-sized c =
-    read-sized c.args.of.now (read_request c.args.wanted.now) c.args.asked c.requires.order c.args.wanted.now.data_type refl (elements c.value-value.result.now) c.value-value.ensures.value c.meta.result.now c.meta.ensures c.know.ensures
+    read-sized c.args.of.now (read_request c.args.wanted.now) c.args.asked c.requires.order c.args.wanted.now.data_type refl (elements c.value-value.result.now) c.value-value.ensures.value c.meta.result.now c.meta.ensures c.know.ensures.valued
 
 pub returns-in-Ok-clause-ok : goal.returns-in-Ok-clause-ok
 returns-in-Ok-clause-ok c =

@@ -15,7 +15,7 @@ use Rattle.ca_server_circuit.proofs.updates.show_image.Goals as goal
 
 pub queue_made-requires-clause-sized : goal.queue_made-requires-clause-sized
 queue_made-requires-clause-sized c =
-    update-sized c.args.wanted c.args.shown.now c.in-Ok.ensures.0 c.in-Ok.ensures.1 c.count_for-count.result c.count_for-count.ensures.count (elements c.value-value.result.now) c.value-value.ensures.value c.meta.result.now c.meta.ensures c.in-Ok.size c.know.ensures c.in-Ok.ensures.2
+    update-sized c.args.wanted c.args.shown.now c.in-Ok.ensures.0 c.in-Ok.ensures.1 c.count_for-count.result c.count_for-count.ensures.count (elements c.value-value.result.now) c.value-value.ensures.value c.meta.result.now c.meta.ensures c.in-Ok.size c.know.ensures.valued c.in-Ok.ensures.2
 
 pub returns-in-Ok-queue_made-clause-ok : goal.returns-in-Ok-queue_made-clause-ok
 returns-in-Ok-queue_made-clause-ok c =

@@ -14,5 +14,5 @@ overflow_add-result c =
 
 pub returns : goal.returns
 returns c =
-    shows-within c.args.wanted.now c.args.shown.now (subst (λ (e : Elements). IsValue e) c.value.ensures.value c.know.ensures) c.in-Ok.ensures.0 c.count_for-count.result c.in-Ok.size
+    shows-within c.args.wanted.now c.args.shown.now (subst (λ (e : Elements). IsValue e) c.value.ensures.value c.know.ensures.valued) c.in-Ok.ensures.0 c.count_for-count.result c.in-Ok.size
     c.in-Ok.ensures.1 c.count_for-count.ensures.count c.in-Ok.ensures.2

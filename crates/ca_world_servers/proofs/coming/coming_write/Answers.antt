@@ -1,7 +1,9 @@
-use Rattle.std.proofs.Common.{◌≡◌, ℕ, Option, Some, None, ap, subst, ◌∙◌}
+use Rattle.std.proofs.Common.{◌≡◌, ℕ, Option, Some, None, ap, subst, sym, ◌∙◌}
 use Rattle.std.specs.Prelude.{option_map}
 use Rattle.ca_dbr.specs.declared.value.Value.{Value}
 use Rattle.ca_dbr.specs.Elements.{base_of, elements}
+use Rattle.ca_dbr.specs.Held.{display_of}
+use Rattle.ca_dbr.proofs.Helds.{display_of-elements}
 use Rattle.ca_ids.specs.Table.{under}
 use Rattle.ca_records.specs.Record.{RecordState}
 use Rattle.ca_server_core.specs.Asking.{NamesUnder}
@@ -32,7 +34,8 @@ returns-in_default-2 c =
     let given : GivesValue c.args.message.now c.base_type.result None =
     subst (λ (o : Option Value). GivesValue c.args.message.now c.base_type.result (option_map elements o)) c.in_default-2.is c.in_ok-given.ensures in
     let gives : GivesValue c.args.message.now (base_of s.value) None = subst (λ b. GivesValue c.args.message.now b None) (c.base_type.ensures ∙ ap base_of c.value.ensures.value) given in
-    none-given c.args.core.now c.args.circuit c.args.message.now c.in-Some.name.now named s c.in-Some-record.ensures gives
+    let alone : display_of s.value ≡ None = ap display_of (sym c.value.ensures.value) ∙ display_of-elements c.value.result.now in
+    none-given c.args.core.now c.args.circuit c.args.message.now c.in-Some.name.now named s c.in-Some-record.ensures alone gives
 
 pub returns : goal.returns
 returns c =
@@ -43,5 +46,6 @@ returns c =
     let given : GivesValue c.args.message.now c.base_type.result (Some (elements c.in-Some-2.given)) =
     subst (λ (o : Option Value). GivesValue c.args.message.now c.base_type.result (option_map elements o)) c.in-Some-2.is c.in_ok-given.ensures in
     let gives : GivesValue c.args.message.now (base_of s.value) (Some (elements c.in-Some-2.given)) = subst (λ b. GivesValue c.args.message.now b (Some (elements c.in-Some-2.given))) (c.base_type.ensures ∙ ap base_of c.value.ensures.value) given in
+    let alone : display_of s.value ≡ None = ap display_of (sym c.value.ensures.value) ∙ display_of-elements c.value.result.now in
     write-given c.args.core.now c.args.circuit c.args.message.now c.in-Some.name.now named s c.in-Some-record.ensures
-    (record { name = c.in_ok-name.name; value = c.in-Some-2.given; busies = c.makes_busy-busies.result }) c.in_ok-name.ensures.items c.makes_busy-busies.ensures gives
+    (record { name = c.in_ok-name.name; value = c.in-Some-2.given; busies = c.makes_busy-busies.result }) c.in_ok-name.ensures.items c.makes_busy-busies.ensures alone gives

@@ -83,4 +83,4 @@ invariant_of-self c =
     subst (λ (name : List ℕ). AddsAt (record s { name = name }) (server_of y) sl c.add_at.result (server_of y') sl') c.deref.ensures.value c.add_at.ensures.adds in
     let d = add-does cs ss ks cl sl w.moment i y at s y' sl' c.add_at.result did in
     let indexed = indexed-server (client_numbers cs) ss i y y' (map joined_of ks) (map joined_of ks) at c.add_at.ensures.kept refl c.self.invariant.indexed in
-    all-stand w _ (Add i s) (c.know.ensures, refl) c.add_at.result d c.self.invariant indexed
+    all-stand w _ (Add i s) (c.know.ensures.held, refl) c.add_at.result d c.self.invariant indexed

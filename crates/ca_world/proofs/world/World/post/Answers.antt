@@ -89,4 +89,4 @@ invariant_of-self c =
     subst (λ (z : List ℕ × ℕ). PostsAt i z.0 (record { value = e; meta = unset }) z.1 y (map joined_of ks) sl c.post_at.result y' (map joined_of ks') sl') (λ t. (c.deref.ensures.value t, c.bits.ensures.bits t)) c.post_at.ensures in
     let d = post-does cs ss ks cl sl w.moment i y at name e mask y' ks' sl' c.post_at.result did in
     let indexed = post-indexed cs ss ks cl sl w.moment i y at name e mask (client_numbers cs) y' ks' sl' c.post_at.result did c.self.invariant.indexed in
-    all-stand w _ (Post i name e mask) (c.know.ensures, subst HasEvent c.bits.ensures.bits c.bits.ensures.event) c.post_at.result d c.self.invariant indexed
+    all-stand w _ (Post i name e mask) (c.know.ensures.held, subst HasEvent c.bits.ensures.bits c.bits.ensures.event) c.post_at.result d c.self.invariant indexed

@@ -62,5 +62,5 @@ invariant_of-self c =
     let within : k < length cs = omega (arith, c.if-client-len.false, c.len.ensures) in
     let at : At cs k x = found cs k x x within c.index_mut.ensures.value in
     let d = puts-does (seen w) k c.args.channel a (client_of x) (client_of x') logs ks c.write_notify_on.result (At-map client_of cs k x at) c.write_notify_on.ensures.puts in
-    speaks-stand w k x at c.self.invariant (WriteNotify k c.args.channel a) c.write_notify_on.result x' logs ks d c.know.ensures _ refl c.write_notify_on.ensures.kept refl refl
+    speaks-stand w k x at c.self.invariant (WriteNotify k c.args.channel a) c.write_notify_on.result x' logs ks d c.know.ensures.valued _ refl c.write_notify_on.ensures.kept refl refl
     (puts-keep k c.args.channel a (client_of x) (client_of x') (lines_in w.client_logs.items) logs (map joined_of w.circuits.items) ks c.write_notify_on.result c.write_notify_on.ensures.puts)

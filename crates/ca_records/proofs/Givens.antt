@@ -1,0 +1,106 @@
+-- What is given to a record: it is of the record's type, and as many elements.
+use Rattle.std.proofs.Common.{◌≡◌, ◌≢◌, Option, Some, None, Result, Ok, IfSome, refl, sym, ap, subst, ◌∙◌}
+use Rattle.ca_text.specs.declared.refusal.Refusal.{Refusal}
+use Rattle.ca_dbr.specs.declared.data_type.BaseType.{BaseType}
+use Rattle.ca_dbr.specs.declared.value.Value.{Value}
+use Rattle.ca_dbr.specs.Display.{DisplayData, IsData}
+use Rattle.ca_dbr.specs.Elements.{Elements, strings, ints, floats, enums, chars, longs, doubles, displayed, elements, base_of, count_of, IsValue}
+use Rattle.ca_dbr.specs.Conversion.{converted}
+use Rattle.ca_dbr.specs.Held.{IsHeldValue, Kind, bare, display_of, displayed_by, kind_of}
+use Rattle.ca_dbr.proofs.Helds.{bare-alone, converted-display, count_of-bare, display_of-bare, display_of-elements, display_of-valued, held-valued}
+use Rattle.ca_dbr.proofs.Shows.{converted-based, converted-counted, with_data-made}
+use Rattle.ca_dbr.proofs.Valued.{converted-valued}
+use Rattle.ca_records.specs.Given.{given_as, in_display}
+
+-- ---- with display data, or without
+
+base_of-displayed : (o : Option DisplayData) (e : Elements) → base_of (displayed_by o e) ≡ base_of e
+base_of-displayed None e = refl
+base_of-displayed (Some d) e = refl
+
+count_of-displayed : (o : Option DisplayData) (e : Elements) → count_of (displayed_by o e) ≡ count_of e
+count_of-displayed None e = refl
+count_of-displayed (Some d) e = refl
+
+display_of-displayed : (o : Option DisplayData) (e : Elements) → display_of e ≡ None → display_of (displayed_by o e) ≡ o
+display_of-displayed None e none = none
+display_of-displayed (Some d) e none = refl
+
+held-displayed : (o : Option DisplayData) (e : Elements) → IfSome o IsData → IsValue e → IsHeldValue (displayed_by o e)
+held-displayed None e shown valued = held-valued e valued
+held-displayed (Some d) e shown valued = (shown, valued)
+
+data-held : (v : Elements) → IsHeldValue v → IfSome (display_of v) IsData
+data-held (strings xs) h = tt
+data-held (ints xs) h = tt
+data-held (floats xs) h = tt
+data-held (enums xs) h = tt
+data-held (chars xs) h = tt
+data-held (longs xs) h = tt
+data-held (doubles xs) h = tt
+data-held (displayed d e) h = h.0
+
+-- ---- types
+
+abbrev kind : BaseType → Option DisplayData → Kind
+kind b o = record { base = b; display = o }
+
+-- elements of a record's type, in place of its own
+pub kind_of-displayed : (e v : Elements) → display_of e ≡ None → base_of e ≡ base_of v → kind_of (displayed_by (display_of v) e) ≡ kind_of v
+kind_of-displayed e v none based = λ i. kind ((base_of-displayed (display_of v) e ∙ based) i) (display_of-displayed (display_of v) e none i)
+
+-- both without display data
+pub kind_of-alone : (e v : Elements) → display_of e ≡ None → display_of v ≡ None → base_of e ≡ base_of v → kind_of e ≡ kind_of v
+kind_of-alone e v none own based = λ i. kind (based i) ((none ∙ sym own) i)
+
+pub other-kind : (e v : Elements) → base_of e ≢ base_of v → kind_of e ≢ kind_of v
+other-kind e v other same = other (ap (λ (k : Kind). k.base) same)
+
+-- ---- what is given
+
+made-of : (o : Option DisplayData) (r : Result Elements Refusal) (f : Elements) → in_display o r ≡ Ok f → (g : Elements) × (r ≡ Ok g) × (f ≡ displayed_by o g)
+made-of None r f h = (f, h, refl)
+made-of (Some d) r f h = with_data-made d r f h
+
+pub given-counted : (e : Elements) (k : Kind) (f : Elements) → given_as e k ≡ Ok f → count_of f ≡ count_of e
+given-counted e k f h =
+    let made = made-of k.display (converted (bare e) k.base) f h in
+    ap count_of made.2 ∙ count_of-displayed k.display made.0 ∙ converted-counted (bare e) k.base made.0 made.1 ∙ count_of-bare e
+
+pub given-kind : (e : Elements) (k : Kind) (f : Elements) → given_as e k ≡ Ok f → kind_of f ≡ k
+given-kind e k f h =
+    let made = made-of k.display (converted (bare e) k.base) f h in
+    let based : base_of f ≡ k.base = ap base_of made.2 ∙ base_of-displayed k.display made.0 ∙ converted-based (bare e) k.base made.0 made.1 in
+    let none : display_of made.0 ≡ None = converted-display (bare e) k.base made.0 made.1 ∙ display_of-bare e in
+    let shown : display_of f ≡ k.display = ap display_of made.2 ∙ display_of-displayed k.display made.0 none in
+    λ i. kind (based i) (shown i)
+
+-- a record may hold it
+pub given-held : (e v f : Elements) → IsValue e → IsHeldValue v → given_as e (kind_of v) ≡ Ok f → IsHeldValue f
+given-held e v f valued held h =
+    let made = made-of (display_of v) (converted (bare e) (base_of v)) f h in
+    let one : IsValue (bare e) = subst (λ (x : Elements). IsValue x) (sym (bare-alone e (display_of-valued e valued))) valued in
+    subst (λ (x : Elements). IsHeldValue x) (sym made.2) (held-displayed (display_of v) made.0 (data-held v held) (converted-valued (bare e) (base_of v) made.0 one made.1))
+
+-- without display data: what it is converted to
+pub given-alone : (e v : Elements) → display_of e ≡ None → display_of v ≡ None → given_as e (kind_of v) ≡ converted e (base_of v)
+given-alone e v none own =
+    ap (λ (o : Option DisplayData). in_display o (converted (bare e) (base_of v))) own
+    ∙ ap (λ (x : Elements). converted x (base_of v)) (bare-alone e none)
+
+-- the same of values of the program
+pub given-judged : (a w : Value) (v : Elements) (b : BaseType) → elements w ≡ v → b ≡ base_of (elements w) → converted (elements a) b ≡ given_as (elements a) (kind_of v)
+given-judged a w v b held is =
+    ap (λ (x : BaseType). converted (elements a) x) (is ∙ ap base_of held)
+    ∙ sym (given-alone (elements a) v (display_of-elements a) (ap display_of (sym held) ∙ display_of-elements w))
+
+in_display-ok : (o : Option DisplayData) (e : Elements) → in_display o (Ok e) ≡ Ok (displayed_by o e)
+in_display-ok None e = refl
+in_display-ok (Some d) e = refl
+
+-- elements of its own type stay as they are
+pub given-own : (e v : Elements) → display_of e ≡ None → base_of e ≡ base_of v → converted e (base_of e) ≡ Ok e → given_as e (kind_of v) ≡ Ok (displayed_by (display_of v) e)
+given-own e v none based own =
+    ap (λ (x : Elements). in_display (display_of v) (converted x (base_of v))) (bare-alone e none)
+    ∙ ap (λ (r : Result Elements Refusal). in_display (display_of v) r) (subst (λ (b : BaseType). converted e b ≡ Ok e) based own)
+    ∙ in_display-ok (display_of v) e
