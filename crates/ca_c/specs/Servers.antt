@@ -6,6 +6,7 @@ use Rattle.std.specs.Prelude.{length, map, min, option_map, slice_get, take}
 use Rattle.ca_arena.specs.declared.handle.Handle.{Handle}
 use Rattle.ca_dbr.specs.declared.value.Meta.{Meta}
 use Rattle.ca_dbr.specs.Elements.{Elements, base_of, count_of}
+use Rattle.ca_dbr.specs.Held.{bare, displayed_by}
 use Rattle.ca_dbr.specs.Reading.{ReadRefused}
 use Rattle.ca_dbr.specs.Types.{base_number}
 use Rattle.ca_ids.specs.Table.{has_free, under}
@@ -16,6 +17,7 @@ use Rattle.ca_model.specs.ServerCalls.{Removes, stamped, waiting}
 use Rattle.ca_model.specs.ServerSteps.{Accepts, Cuts, Gives, Pumps, Sends, Steps, Update, output_of}
 use Rattle.ca_records.specs.Record.{RecordState, unset}
 use Rattle.ca_records.specs.Rules.{Rule}
+use Rattle.ca_records.specs.Store.{display_at}
 use Rattle.ca_script.specs.Grammar.{Refuses}
 use Rattle.ca_script.specs.RecordFiles.{FileReading, SaysFile}
 use Rattle.ca_server_core.specs.Asking.{NamesUnder, busy_value, first_waiting, peer_under}
@@ -141,7 +143,9 @@ DoesPost s n t name mask number count image =
     × ((value : Elements)
     × ((meta : Meta)
     × ((gone : Handle → Bool) × ((n ≡ code_of r) × IsImage number count image value meta
-    × Posts s.core name (record { value = value; meta = meta }) mask gone r t.core
+    × Posts s.core name
+    (record { value = displayed_by (display_at s.core.records name) value; meta = meta }) mask gone
+    r t.core
     × KeepsRest s t)))))
     ⊎ ((e : Refusal) × ((n ≡ refusal_code e) × ReadRefused number count image e × (t ≡ s)))
 
@@ -156,7 +160,8 @@ DoesFinish s n t name =
 abbrev pub ShowsBusy : Option Elements → ℤ → (size_before size_after : ℕ) → (before after : List ℕ)
     → Type 0
 ShowsBusy (Some value) n size_before size_after before after =
-    ShowsValue (base_number (base_of value)) value unset n size_before size_after before after
+    ShowsValue (base_number (base_of value)) (bare value) unset n size_before size_after before
+    after
 ShowsBusy None n size_before size_after before after =
     (n ≡ refusal_code refusal.NotBusy) × (size_after ≡ size_before) × (after ≡ before)
 
@@ -171,7 +176,8 @@ abbrev pub ShowsRecord : Option RecordState → (number : ℕ) → ℤ
     → (count_before count_after size_before size_after : ℕ) → (before after : List ℕ) → Type 0
 ShowsRecord (Some r) number n count_before count_after size_before size_after before after =
     (x : Result (Unit {0}) Refusal)
-    × ((n ≡ code_of x) × CopiesValue number r.value r.meta x size_before size_after before after
+    × ((n ≡ code_of x)
+    × CopiesValue number (bare r.value) r.meta x size_before size_after before after
     × Tells (λ (u : Unit {0}). count_of r.value) x count_before count_after)
 ShowsRecord None number n count_before count_after size_before size_after before after =
     (n ≡ refusal_code refusal.UnknownRecord) × (count_after ≡ count_before)

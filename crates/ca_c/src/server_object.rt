@@ -162,9 +162,10 @@ impl ServerObject {
     pub(crate) fn busy(&self, alloc: Global, name: &[u8], room: &mut [u8], size: &mut usize) -> i32
         ensures { DoesBusy self.now result self.now name.now size.old size.new room.old room.new }
     {
-        let Some(value) = self.core.busy_value(name) else {
+        let Some(held) = self.core.busy_value(name) else {
             return refused(Refusal::NotBusy);
         };
+        let value = held.value();
         let own = value.base_type().number();
         shown(alloc, own, value, &Meta::ZERO, room, size)
     }
@@ -185,7 +186,14 @@ impl ServerObject {
         let Some(record) = self.core.record(name) else {
             return refused(Refusal::UnknownRecord);
         };
-        match copied_value(alloc, number, record.value(), record.meta(), room, size) {
+        match copied_value(
+            alloc,
+            number,
+            record.held().value(),
+            record.meta(),
+            room,
+            size,
+        ) {
             Ok(()) => {
                 *count = count_of(record);
                 0
@@ -289,5 +297,5 @@ impl ServerObject {
 fn count_of(record: &Record) -> u32
     ensures { result ≡ count_of record.now.value }
 {
-    record.value().count() as u32
+    record.held().value().count() as u32
 }

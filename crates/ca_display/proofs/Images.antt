@@ -139,7 +139,7 @@ above_all number (inl low) high = absurd (omega (arith, low, high))
 above_all number (inr above) high = above
 
 -- what was put of elements that are shown as others are with display data
-pub own_written : (t : ImageType) (count : ℕ) (g e : Elements) (m : Meta) (d : DisplayData) (old new : List ℕ) (r : Result (Unit {0}) Refusal) → length d.states ≤ 16 → ShowsAs d g e count (base_in t)
+pub own_written : (t : ImageType) (count : ℕ) (g e : Elements) (m : Meta) (d : DisplayData) (old new : List ℕ) (r : Result (Unit {0}) Refusal) → ShowsAs d g e count (base_in t)
     → OnOk r (PutsOwn t count g m d old new) → IfErr r (λ k. k ≡ refusal.OutOfMemory) → OnErr r (new ≡ old) → WritesIn t count e m d old r new
-own_written t count g e m d old new (Ok u) few same put memory stays = (few, (put.0, same ∙ put.1, put.2))
-own_written t count g e m d old new (Err k) few same put memory stays = (stays, inr (inr memory))
+own_written t count g e m d old new (Ok u) same put memory stays = (put.0, same ∙ put.1, put.2)
+own_written t count g e m d old new (Err k) same put memory stays = (stays, inr memory)

@@ -9,3 +9,4 @@ pub mod Roundings
 pub mod Sizes
 pub mod Shown
 pub mod Alarms
+pub mod Holdings

@@ -178,5 +178,5 @@ unconverted made (Err k) (inr memory) = inr memory.0
 
 pub first-unshown : (d : DisplayData) (e : Elements) (count : ℕ) (b c : BaseType) (r : Refusal) → c ≡ b → (display_converted d (first_elements count e) c ≡ Err r) ⊎ (r ≡ refusal.OutOfMemory) → IsUnshown d e count b r
 first-unshown d e count b c r same (inl fault) =
-    inr (inl (subst (λ (x : BaseType). display_shown d e count x ≡ Err r) same (ap (λ (x : Result Elements Refusal). zeros_behind (count - count_of e) x) fault)))
-first-unshown d e count b c r same (inr memory) = inr (inr memory)
+    inl (subst (λ (x : BaseType). display_shown d e count x ≡ Err r) same (ap (λ (x : Result Elements Refusal). zeros_behind (count - count_of e) x) fault))
+first-unshown d e count b c r same (inr memory) = inr memory

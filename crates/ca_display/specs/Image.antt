@@ -64,21 +64,17 @@ abbrev pub size_in : ImageType → ℕ → ℕ
 size_in (any.Data t) count = size_of_image t count
 size_in (any.Display t) count = size_of_display t count
 
--- Why n elements of these are not shown in a type: there are over 16 states, an element does not
--- convert, or there is no memory.
+-- Why n elements of these are not shown in a type: an element does not convert, or there is no
+-- memory.
 abbrev pub IsUnshown : DisplayData → Elements → ℕ → BaseType → Refusal → Type 0
-IsUnshown d e count b r =
-    ((16 < length d.states) × (r ≡ refusal.BadCount))
-    ⊎ ((display_shown d e count b ≡ Err r) ⊎ (r ≡ refusal.OutOfMemory))
+IsUnshown d e count b r = (display_shown d e count b ≡ Err r) ⊎ (r ≡ refusal.OutOfMemory)
 
 -- The image of what a read shows of these in a type was to be written after the old bytes, with
 -- this answer, and left new.
 abbrev pub WritesIn : ImageType → ℕ → Elements → Meta → DisplayData → List ℕ
     → Result (Unit {0}) Refusal → List ℕ → Type 0
 WritesIn t count e m d old (Ok _) new =
-    (length d.states ≤ 16)
-    × ((f : Elements) × (display_shown d e count (base_in t) ≡ Ok f)
-    × (new ≡ old ++ image_in t f m d))
+    (f : Elements) × (display_shown d e count (base_in t) ≡ Ok f) × (new ≡ old ++ image_in t f m d)
 WritesIn t count e m d old (Err r) new = (new ≡ old) × IsUnshown d e count (base_in t) r
 
 -- the same in the type of this number, if there is one

@@ -10,3 +10,4 @@ pub mod Exact
 pub mod Real
 pub mod Conversion
 pub mod Alarm
+pub mod Holding

@@ -1,8 +1,9 @@
 //! Display data of a record, and how it is made.
-ghost use Rattle.std.specs.Prelude.{◌≡◌, ◌++◌, ◌∷◌, [], ◌<◌, ◌≤◌, length, IfOk, IfErr, OnErr};
-ghost use Rattle.ca_display.specs.Data.{data_of, limits_of, FitsField, in_field, StateRefused};
+ghost use Rattle.std.specs.Prelude.{◌≡◌, ◌++◌, ◌∷◌, [], ◌<◌, ◌≤◌, ◌^◌, length, All, IfOk, IfErr};
+ghost use Rattle.std.specs.Prelude.{OnErr};
 ghost use Rattle.ca_text.specs.declared.refusal.Refusal.TheVariants.{NameLength};
 
+use crate::field::fixed;
 use ca_text::Refusal;
 use std::alloc::Global;
 
@@ -32,9 +33,12 @@ pub struct Display {
     pub limits: Limits,
     /// The names of an ENUM's states, from that of 0 on: each a text, and zero bytes.
     pub states: Vec<[u8; 26]>,
+    ghost few: { length states.items ≤ 16 },
 }
 
 impl Limits {
+    ghost use Rattle.ca_display.specs.Data.{limits_of};
+
     /// All zero, as limits are read that an image does not carry. For `alarm_of` zero is a limit:
     /// no number is none.
     pub const ZERO: Limits = Limits {
@@ -66,6 +70,9 @@ impl Limits {
 }
 
 impl Display {
+    ghost use Rattle.ca_dbr.specs.Display.{IsData};
+    ghost use Rattle.ca_display.specs.Data.{data_of, limits_of, FitsField, in_field, StateRefused};
+
     /// Display data without states. Refused as NameLength if the units are over 7 bytes or have a
     /// zero byte.
     pub fn new(
@@ -111,27 +118,31 @@ impl Display {
         self.states.push(name)?;
         Ok(())
     }
-}
 
-// The text in a field of this size, with zero bytes after it. Refused as NameLength if no zero
-// byte fits after it, or one is in it.
-fn fixed<const SIZE: usize>(text: &[u8]) -> Result<[u8; SIZE], Refusal>
-    ensures made { IfOk result (λ field. field ≡ in_field SIZE text.now) }
-    ensures fits { IfOk result (λ _. FitsField SIZE text.now) }
-    ensures err { IfErr result (λ e. (e ≡ NameLength) × (FitsField SIZE text.now → ⊥)) }
-{
-    if text.len() >= SIZE || text.contains(&0) {
-        return Err(Refusal::NameLength);
+    /// Tells that each part is one of its kind. It does nothing.
+    pub fn know(&self)
+        ensures { IsData (data_of self.now) }
+    {
+        let _precision = self.precision;
+        know_limits(&self.limits.in_order());
+        know_names(&self.states);
     }
-    Ok(field_of(text))
 }
 
-/// A text in a field of this size, with zero bytes after it.
-pub(crate) fn field_of<const SIZE: usize>(text: &[u8]) -> [u8; SIZE]
-    requires { length text.now ≤ SIZE }
-    ensures { result ≡ in_field SIZE text.now }
+// Tells that these are bit patterns of DOUBLEs. It does nothing.
+fn know_limits(limits: &[u64])
+    ensures { All (λ n. n < 2 ^ 64) limits.now }
 {
-    let mut field = [0; SIZE];
-    field[..text.len()].copy_from_slice(text);
-    field
+    for limit in limits {
+        let _limit = *limit;
+    }
+}
+
+// Tells that these have 26 bytes each. It does nothing.
+fn know_names(names: &[[u8; 26]])
+    ensures { All (λ name. length name ≡ 26) names.now }
+{
+    for name in names {
+        let _name = *name;
+    }
 }

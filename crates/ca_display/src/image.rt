@@ -136,8 +136,7 @@ fn put_states(names: &[[u8; 26]], out: &mut Vec<u8>)
 
 // Puts the display data that is in an image at the end, where room was made for it.
 fn put_data(data_type: DisplayType, display: &Display, out: &mut Vec<u8>)
-    requires few { length display.now.states.items ≤ 16 }
-    requires room { vec_len out.old + data_size data_type.base data_type.form
+    requires { vec_len out.old + data_size data_type.base data_type.form
         ≤ vec_capacity out.old }
     ensures after { out.new.items ≡ out.old.items
         ++ data_bytes data_type.base data_type.form (data_of display.now) }
@@ -161,8 +160,7 @@ fn put_data(data_type: DisplayType, display: &Display, out: &mut Vec<u8>)
 // Puts what is before the elements of an image at the end, where room was made for it.
 #[tactic(auto, unfolding(ca_dbr::specs::Elements::bytes_2))]
 fn put_front(data_type: DisplayType, meta: Meta, display: &Display, out: &mut Vec<u8>)
-    requires few { length display.now.states.items ≤ 16 }
-    requires room { vec_len out.old + (4 + data_size data_type.base data_type.form)
+    requires { vec_len out.old + (4 + data_size data_type.base data_type.form)
         ≤ vec_capacity out.old }
     ensures after { out.new.items ≡ out.old.items ++ (meta_bytes plain_form.Status meta
         ++ data_bytes data_type.base data_type.form (data_of display.now)) }
@@ -186,8 +184,7 @@ fn write_with_display(
     display: &Display,
     out: &mut Vec<u8>,
 ) -> Result<(), Refusal>
-    requires own { base_of (elements value.now) ≡ data_type.base }
-    requires few { length display.now.states.items ≤ 16 }
+    requires { base_of (elements value.now) ≡ data_type.base }
     ensures written { OnOk result (PutsOwn (any.Display data_type) count (elements value.now)
         meta.now (data_of display.now) out.old.items out.new.items) }
     ensures err { IfErr result (λ e. e ≡ OutOfMemory) }
@@ -212,8 +209,7 @@ fn write_own(
     display: &Display,
     out: &mut Vec<u8>,
 ) -> Result<(), Refusal>
-    requires own { base_of (elements value.now) ≡ base_in image_type }
-    requires few { length display.now.states.items ≤ 16 }
+    requires { base_of (elements value.now) ≡ base_in image_type }
     ensures written { OnOk result (PutsOwn image_type count (elements value.now) meta.now
         (data_of display.now) out.old.items out.new.items) }
     ensures err { IfErr result (λ e. e ≡ OutOfMemory) }
@@ -243,7 +239,6 @@ fn write_converted(
     display: &Display,
     out: &mut Vec<u8>,
 ) -> Result<(), Refusal>
-    requires { length display.now.states.items ≤ 16 }
     ensures { WritesIn image_type count (elements value.now) meta.now (data_of display.now)
         out.old.items result out.new.items }
 {
@@ -258,10 +253,9 @@ fn write_converted(
 /// elements of its value, in a type.
 ///
 /// A count below the value's takes its first elements, before they are converted; after all of them
-/// elements of zero bytes follow. Refused as BadType if the type does not exist, as BadCount if
-/// there are more than 16 states, then by the first element that does not convert; and as
-/// OutOfMemory, only if there is no room for it or the value is not of the type's base. The bytes
-/// are then as before.
+/// elements of zero bytes follow. Refused as BadType if the type does not exist, then by the first
+/// element that does not convert; and as OutOfMemory, only if there is no room for it or the value
+/// is not of the type's base. The bytes are then as before.
 pub fn write_display(
     number: u16,
     count: u32,
@@ -281,9 +275,6 @@ pub fn write_display(
         None => return Err(Refusal::BadType),
         Some(image_type) => image_type,
     };
-    if display.states.len() > STATE_LIMIT {
-        return Err(Refusal::BadCount);
-    }
     if value.base_type() == image_type.base() {
         return write_own(image_type, count, value, meta, display, out);
     }

@@ -7,7 +7,7 @@ ghost use Rattle.ca_display.specs.Real.{more_bytes, minus_text, printed_text, re
 ghost use Rattle.ca_display.specs.Decimal.{in_width};
 
 use crate::decimal::{power_of, put, put_units};
-use crate::display::field_of;
+use crate::field::field_of;
 use crate::printed::put_size;
 use arrayvec::ArrayVec;
 use std::num::{

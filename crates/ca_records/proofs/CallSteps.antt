@@ -16,7 +16,7 @@ use Rattle.ca_records.specs.declared.slot.RecordSlot.{RecordSlot}
 use Rattle.ca_records.specs.declared.slot.RecordSlot.TheVariants.{Full}
 use Rattle.ca_records.specs.Chain.{IsStored}
 use Rattle.ca_records.specs.Judging.{fewer_waiting, more_waiting}
-use Rattle.ca_records.specs.Layout.{MayHave}
+use Rattle.ca_records.specs.Layout.{IsFit}
 use Rattle.ca_records.specs.declared.puts.Put.{Put}
 use Rattle.ca_records.specs.declared.puts.Stamp.{Stamp}
 use Rattle.ca_records.specs.Puts.{Record, WaitingPut, finished, record_named, with_value, withdrawn, without_puts}
@@ -167,12 +167,12 @@ pub record PostStep (slots : List RecordSlot) (free : Option ℕ) (f : List ℕ 
   pub stored : IsStored (slice_set slots place (Full next)) free f waiting
   pub posts : Posts (store_of slots rules stamp) name e meta (Ok place) (store_of (slice_set slots place (Full next)) rules stamp)
 
-pub post-step : (slots : List RecordSlot) (free : Option ℕ) (f : List ℕ → Option ℕ) (waiting : ℕ) (rules : List Rule) (stamp : Stamp) (name : List ℕ) (place : ℕ) (r next : Record) (e : Elements) (meta : Meta) → IsStored slots free f waiting → At slots place (Full r) → Finds (store_of slots rules stamp) name place → MayHave r.state e → next ≡ with_value e meta r → PostStep slots free f rules stamp name place next e meta waiting
-post-step slots free f waiting rules stamp name place r next e meta stored full found may is =
+pub post-step : (slots : List RecordSlot) (free : Option ℕ) (f : List ℕ → Option ℕ) (waiting : ℕ) (rules : List Rule) (stamp : Stamp) (name : List ℕ) (place : ℕ) (r next : Record) (e : Elements) (meta : Meta) → IsStored slots free f waiting → At slots place (Full r) → Finds (store_of slots rules stamp) name place → IsFit r.state e → next ≡ with_value e meta r → PostStep slots free f rules stamp name place next e meta waiting
+post-step slots free f waiting rules stamp name place r next e meta stored full found fit is =
     let it = finds-it slots rules stamp name place r found full in
     let made : Change slots free f rules stamp place r next waiting = change slots free f waiting waiting rules stamp place r next stored full (ap (λ (q : Record). q.state.name) is) (ap (λ (q : Record). waiting + length q.waiting) (sym is)) in
     let turned = turns slots free f rules stamp name place r next waiting found full made in
     record {
       stored = made.stored;
-      posts = ((r, it.1, may.based, may.one, may.within), (r, subst (λ (q : Record). Turns (store_of slots rules stamp) name place r q (store_of (slice_set slots place (Full next)) rules stamp)) is turned));
+      posts = ((r, it.1, fit.based, fit.holds.one, fit.holds.within), (r, subst (λ (q : Record). Turns (store_of slots rules stamp) name place r q (store_of (slice_set slots place (Full next)) rules stamp)) is turned));
     }

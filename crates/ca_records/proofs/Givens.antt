@@ -30,7 +30,7 @@ held-displayed : (o : Option DisplayData) (e : Elements) → IfSome o IsData →
 held-displayed None e shown valued = held-valued e valued
 held-displayed (Some d) e shown valued = (shown, valued)
 
-data-held : (v : Elements) → IsHeldValue v → IfSome (display_of v) IsData
+pub data-held : (v : Elements) → IsHeldValue v → IfSome (display_of v) IsData
 data-held (strings xs) h = tt
 data-held (ints xs) h = tt
 data-held (floats xs) h = tt
@@ -94,7 +94,7 @@ given-judged a w v b held is =
     ap (λ (x : BaseType). converted (elements a) x) (is ∙ ap base_of held)
     ∙ sym (given-alone (elements a) v (display_of-elements a) (ap display_of (sym held) ∙ display_of-elements w))
 
-in_display-ok : (o : Option DisplayData) (e : Elements) → in_display o (Ok e) ≡ Ok (displayed_by o e)
+pub in_display-ok : (o : Option DisplayData) (e : Elements) → in_display o (Ok e) ≡ Ok (displayed_by o e)
 in_display-ok None e = refl
 in_display-ok (Some d) e = refl
 

@@ -8,6 +8,7 @@ mod Hashed
 mod Indexes
 mod Openings
 mod Overs
+pub mod Placings
 mod Presence
 mod Steps
 mod Waiters

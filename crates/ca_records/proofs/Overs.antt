@@ -3,11 +3,9 @@ use Rattle.std.proofs.Common.{◌≡◌, ℕ, ◌+◌, ◌≤◌, ◌&&◌, Bool
 use Rattle.ca_dbr.specs.declared.data_type.BaseType.{BaseType}
 use Rattle.ca_dbr.specs.declared.value.Meta.{Meta}
 use Rattle.ca_dbr.specs.Conversion.{converted, with_data}
-use Rattle.ca_dbr.specs.Display.{DisplayData}
-use Rattle.ca_dbr.specs.Held.{display_of, displayed_by, kind_of}
+use Rattle.ca_dbr.specs.Held.{kind_of}
 use Rattle.ca_dbr.specs.Elements.{Elements, strings, ints, floats, enums, chars, longs, doubles, displayed, base_of, count_of, IsValue}
-use Rattle.ca_dbr.specs.Reading.{CanReadOver, ReadsElements, ReadsOver, least_size}
-use Rattle.ca_dbr.proofs.Helds.{display_of-valued}
+use Rattle.ca_dbr.specs.Reading.{CanReadOver, ReadsElements, least_size}
 use Rattle.ca_dbr.specs.Types.{base_number}
 use Rattle.ca_text.specs.Limits.{waiting_puts}
 use Rattle.ca_text.specs.Place.{At}
@@ -24,9 +22,10 @@ use Rattle.ca_records.specs.Layout.{AreFit}
 use Rattle.ca_records.specs.Given.{given_as}
 use Rattle.ca_records.specs.Over.{IsOne, PutsOver, TakesOver, WritesOver, in_place_of}
 use Rattle.ca_records.specs.Puts.{Record, WaitingPut, with_value, written_meta}
-use Rattle.ca_records.specs.Record.{IsRecord, RecordState}
+use Rattle.ca_records.specs.Record.{RecordState}
 use Rattle.ca_records.specs.Rules.{Rule}
 use Rattle.ca_records.specs.Writes.{BeginsOn, CanPutOne, CanWriteOne, PutsOne, WritesOne, must_wait, write_fault}
+use Rattle.ca_dbr.proofs.Helds.{display_of-valued}
 use Rattle.ca_records.proofs.Givens.{given-own, kind_of-displayed}
 use Rattle.ca_records.proofs.Steps.{Change, change, seen, seen-full, store_of}
 
@@ -42,14 +41,6 @@ still-fit s t count based (w ∷ ws) fit =
       },
       still-fit s t count based ws fit.1,
     )
-
--- what was read over the elements of a record without display data
-pub takes-over : (number : ℕ) (bytes : List ℕ) (meta : Meta) (old next : RecordState) (e : Elements) → IsRecord old → display_of old.value ≡ None → ReadsOver number bytes old.value true e → next ≡ record old { value = e; meta = meta } → TakesOver number bytes meta old true next
-takes-over number bytes meta old next e is none over set =
-    let can = over.0 in
-    let some : 1 ≤ old.count = (let one = is.value.one in let within = is.value.within in omega (arith, one, within)) in
-    let stays : e ≡ in_place_of old.value e = ap (λ (o : Option DisplayData). displayed_by o e) (sym none) in
-    (e, record { typed = can.typed; long = can.long; reads = over.1; some = some }, set ∙ ap (λ (x : Elements). record old { value = x; meta = meta }) stays)
 
 pub kept-fit : (number : ℕ) (bytes : List ℕ) (meta : Meta) (old : RecordState) (result : Bool) (new : RecordState) (ws : List WaitingPut) → TakesOver number bytes meta old result new → AreFit old ws → AreFit new ws
 kept-fit number bytes meta old true new ws over fit =

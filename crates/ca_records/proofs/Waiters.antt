@@ -1,7 +1,7 @@
 -- Puts that wait, as contracts see them.
 use Rattle.std.proofs.Common.{◌≡◌, ◌⊎◌, inl, inr, Bool, true, false, not, List, [], ◌∷◌, ◌++◌, filter, map, Option, refl, ap, ◌∙◌, ℕ, ◌<◌, get_or, length, subst, sym, arith}
 use Rattle.std.proofs.lemmas.List.{length-map}
-use Rattle.ca_dbr.specs.Elements.{Elements, elements}
+use Rattle.ca_dbr.specs.Elements.{Elements}
 use Rattle.ca_text.specs.Place.{At}
 use Rattle.ca_text.proofs.Places.{At-map}
 use Rattle.ca_records.proofs.Copies.{at_get}
@@ -49,4 +49,4 @@ waits-at items ws place w are within read =
     let same : length (map waiting_put items) ≡ length items = length-map items waiting_put in
     let inside : place < length items = omega (arith, within, same, ap length are) in
     let there : At items place w = subst (λ (t : QueuedPut). At items place t) (sym read) (at_get items place w inside) in
-    (elements w.value, subst (λ (t : List WaitingPut). At t place (waiting_put w)) are (At-map waiting_put items place w there))
+    (w.held, subst (λ (t : List WaitingPut). At t place (waiting_put w)) are (At-map waiting_put items place w there))

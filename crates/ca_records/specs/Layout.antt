@@ -1,12 +1,11 @@
 -- Working: what the fields of a record that is served, and of the store of records, stand for. No
 -- clause of a caller needs it.
-use Rattle.std.specs.Prelude.{ℕ, ◌≡◌, ◌≢◌, ◌<◌, ◌≤◌, ◌⊎◌, List, Option, Some}
+use Rattle.std.specs.Prelude.{ℕ, ◌≡◌, ◌≢◌, ◌<◌, ◌⊎◌, List, Option, Some}
 use Rattle.std.specs.List.{AllByRecursion}
 use Rattle.ca_text.specs.declared.refusal.Refusal.{Refusal}
 use Rattle.ca_text.specs.declared.refusal.Refusal.TheVariants as refusal
-use Rattle.ca_text.specs.Limits.{element_limit}
 use Rattle.ca_text.specs.Place.{At}
-use Rattle.ca_dbr.specs.Elements.{Elements, count_of, elements}
+use Rattle.ca_dbr.specs.Elements.{Elements, count_of}
 use Rattle.ca_dbr.specs.Held.{IsHeldValue, kind_of}
 use Rattle.ca_records.specs.declared.puts.QueuedPut.{QueuedPut}
 use Rattle.ca_records.specs.Puts.{Record, WaitingPut}
@@ -14,7 +13,7 @@ use Rattle.ca_records.specs.Record.{HoldsValue, RecordState}
 
 -- a put that waits, as contracts see it
 abbrev pub waiting_put : QueuedPut → WaitingPut
-waiting_put w = record { put = w.put; value = elements w.value }
+waiting_put w = record { put = w.put; value = w.held }
 
 -- the value is one of the record's type that it may have
 pub record IsFit (s : RecordState) (e : Elements) : Type 0 where
@@ -32,14 +31,7 @@ pub record IsIndexOf (slots : List (Option Record)) (places : List ℕ → Optio
       × At slots place (Some r) × (r.state.name ≡ name)
   pub listed : (place : ℕ) (r : Record) → At slots place (Some r) → places r.state.name ≡ Some place
 
--- the record may have this value by a post
-pub record MayHave (s : RecordState) (e : Elements) : Type 0 where
-  pub based : kind_of e ≡ kind_of s.value
-  pub one : 0 < count_of e
-  pub within : count_of e ≤ s.count
-  pub limit : s.count ≤ element_limit
-
--- why it may not
+-- why a record may not have a value by a post
 abbrev pub MayNotHave : RecordState → Elements → Refusal → Type 0
 MayNotHave s e refusal.BadType = kind_of e ≢ kind_of s.value
 MayNotHave s e refusal.BadCount =

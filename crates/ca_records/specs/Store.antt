@@ -3,7 +3,9 @@ use Rattle.std.specs.Prelude.{ℕ, ◌≡◌, ◌<◌, ◌≤◌, ◌⊎◌, ◌
 use Rattle.std.specs.Prelude.{length, map, option_to_list, slice_set}
 use Rattle.std.specs.List.{flat_map}
 use Rattle.ca_text.specs.Place.{At}
+use Rattle.ca_dbr.specs.Display.{DisplayData}
 use Rattle.ca_dbr.specs.Elements.{Elements, count_of}
+use Rattle.ca_dbr.specs.Held.{display_of}
 use Rattle.ca_records.specs.declared.puts.Stamp.{Stamp}
 use Rattle.ca_records.specs.Puts.{Record, new_record, record_named, with_record}
 use Rattle.ca_records.specs.Record.{RecordState}
@@ -27,6 +29,14 @@ records_of s = present s.slots
 -- the record at a place
 abbrev pub HasAt : Store → ℕ → Record → Type 0
 HasAt s place r = At s.slots place (Some r)
+
+-- the display data of the record of this name, if it is there and has some
+abbrev pub display_in : Option Record → Option DisplayData
+display_in None = None
+display_in (Some r) = display_of r.state.value
+
+abbrev pub display_at : List Record → List ℕ → Option DisplayData
+display_at records name = display_in (record_named records name)
 
 -- some record is at the place
 abbrev pub IsThere : Store → ℕ → Type 0

@@ -5,7 +5,8 @@ ghost use Rattle.ca_records.specs.Judging.{fewer_waiting, more_waiting};
 ghost use Rattle.ca_records.specs.Puts.{written_meta};
 
 use ca_arena::Handle;
-use ca_dbr::{Meta, Value};
+use ca_dbr::Meta;
+use ca_display::Held;
 use ca_text::Status;
 use std::alloc::AllocError;
 
@@ -64,11 +65,11 @@ pub struct Finished {
     pub applied: Option<Put>,
 }
 
-// A put that waits, and its value, which is of its record's type.
+// A put that waits, and what its record is to hold then.
 #[derive(Debug, Drop)]
 pub(crate) struct QueuedPut {
     pub(crate) put: Put,
-    pub(crate) value: Value,
+    pub(crate) held: Held,
 }
 
 // How many more puts wait after a write.

@@ -5,29 +5,28 @@ ghost use Rattle.ca_text.specs.Limits.{record_name_limit};
 ghost use Rattle.ca_text.specs.Name.{IsName};
 ghost use Rattle.ca_text.specs.declared.refusal.Refusal.TheVariants.{BadCount, NameLength};
 ghost use Rattle.ca_dbr.specs.Elements.{elements};
-ghost use Rattle.ca_records.specs.Layout.{MayHave, MayNotHave};
-ghost use Rattle.ca_records.specs.Over.{TakesOver};
+ghost use Rattle.ca_records.specs.Layout.{IsFit, MayNotHave};
+ghost use Rattle.ca_records.specs.Over.{TakesOver, in_place_of};
 ghost use Rattle.ca_records.specs.Record.{HoldsValue, IsRecord, IsUnfit};
 
 use ca_dbr::{Meta, Value};
+use ca_display::Held;
 use ca_text::{ELEMENT_LIMIT, RecordName, Refusal};
 use std::alloc::{AllocError, Global};
 use std::marker::Model;
-use std::mem;
 
-/// A record: a name, the greatest element count, whether a put takes it time, and a
-/// value with its metadata.
+/// A record: a name, the greatest element count, whether a put takes it time, and what it holds: a
+/// value with its metadata, and display data if it has some.
 #[derive(Debug, Drop)]
 pub struct Record {
     name: Vec<u8>,
     count: u32,
     slow: bool,
-    value: Value,
+    held: Held,
     meta: Meta,
 }
 
 impl Model for Record {
-    ghost use Rattle.ca_dbr.specs.Elements.{elements};
     ghost use Rattle.ca_records.specs.Record.{RecordState, IsRecord};
 
     ghost Value = { RecordState };
@@ -42,7 +41,7 @@ impl Model for Record {
           name = r.name.items;
           count = r.count;
           slow = r.slow;
-          value = elements r.value;
+          value = r.held;
           meta = r.meta;
         } };
 
@@ -51,31 +50,31 @@ impl Model for Record {
           name = r.name.items;
           count = r.count;
           slow = r.slow;
-          value = elements r.value;
+          value = r.held;
           meta = r.meta;
         }) };
 }
 
 impl Record {
     // A record of parts that are fit for one.
-    pub(crate) fn new(name: Vec<u8>, count: u32, slow: bool, value: Value, meta: Meta) -> Record
+    pub(crate) fn new(name: Vec<u8>, count: u32, slow: bool, held: Held, meta: Meta) -> Record
         requires name { IsName record_name_limit name.items }
-        requires value { HoldsValue count (elements value) }
+        requires value { HoldsValue count held }
         ensures { result
             ≡ record {
               name = name.items;
               count = count;
               slow = slow;
-              value = elements value;
+              value = held;
               meta = meta;
             } }
     {
-        value.know();
+        held.know();
         Record {
             name,
             count,
             slow,
-            value,
+            held,
             meta,
         }
     }
@@ -84,21 +83,30 @@ impl Record {
     pub(crate) fn copy(&self, alloc: Global) -> Result<Record, AllocError>
         ensures { IfOk result (λ copy. copy ≡ self.now) }
     {
-        let Ok(value) = self.value.copy(alloc) else {
-            return Err(AllocError);
-        };
+        let held = self.held.copy(alloc)?;
         let name = Vec::from_slice(alloc, &self.name)?;
-        Ok(Record::new(name, self.count, self.slow, value, self.meta))
+        Ok(Record::new(name, self.count, self.slow, held, self.meta))
     }
 
-    // Sets the value and what goes with it. Hands out the value before.
+    // Sets what it holds, and what goes with the value.
+    pub(crate) fn set_held(&mut self, held: Held, meta: Meta)
+        requires { HoldsValue self.old.count held }
+        ensures { self.new ≡ record self.old { value = held; meta = meta } }
+    {
+        held.know();
+        self.meta = meta;
+        self.held = held;
+    }
+
+    // Sets the value and what goes with it. Hands out the value before. Display data stay.
     pub(crate) fn set(&mut self, value: Value, meta: Meta) -> Value
-        requires { HoldsValue self.old.count (elements value) }
-        ensures { self.new ≡ record self.old { value = elements value; meta = meta } }
+        requires { HoldsValue self.old.count (in_place_of self.old.value (elements value)) }
+        ensures { self.new
+            ≡ record self.old { value = in_place_of self.old.value (elements value); meta = meta } }
     {
         Value::know(&value);
         self.meta = meta;
-        mem::replace(&mut self.value, value)
+        self.held.set(value)
     }
 
     // Reads one element of its type over its value, and sets what goes with it. False, and nothing
@@ -107,26 +115,29 @@ impl Record {
     pub(crate) fn read_over(&mut self, number: u16, bytes: &[u8], meta: Meta) -> bool
         ensures { TakesOver number bytes.now meta self.old result self.new }
     {
-        if !self.value.read_over(number, bytes) {
+        if !self.held.read_over(number, bytes) {
             return false;
         }
         self.meta = meta;
         true
     }
 
-    // Whether it may have this value by a post: of its type, with one element
+    // Whether it may have this value by a post, in place of its own: of its type, with one element
     // to the greatest count.
     pub(crate) fn check_post(&self, value: &Value) -> Result<(), Refusal>
-        ensures ok { OnOk result (MayHave self.now (elements value.now)) }
-        ensures err { IfErr result (MayNotHave self.now (elements value.now)) }
+        ensures ok { OnOk result
+            (IsFit self.now (in_place_of self.now.value (elements value.now))) }
+        ensures err { IfErr result
+            (MayNotHave self.now (in_place_of self.now.value (elements value.now))) }
     {
-        if value.base_type() != self.value.base_type() {
+        if value.base_type() != self.held.value().base_type() {
             return Err(Refusal::BadType);
         }
         let present = value.count();
         if present == 0 || present > self.count as usize {
             return Err(Refusal::BadCount);
         }
+        value.know();
         Ok(())
     }
 
@@ -152,12 +163,12 @@ impl Record {
         self.slow
     }
 
-    /// The present value.
-    pub fn value(&self) -> &Value
-        ensures value { elements result.now ≡ self.now.value }
+    /// What it holds: the present value, and its display data.
+    pub fn held(&self) -> &Held
+        ensures held { result.now ≡ self.now.value }
         ensures record { IsRecord self.now }
     {
-        &self.value
+        &self.held
     }
 
     /// The alarm of the value, and its stamp.
@@ -168,25 +179,25 @@ impl Record {
     }
 }
 
-// Whether a record may have this name, and this value under this greatest count. The
-// name is judged first.
-pub(crate) fn check(name: &[u8], count: u32, value: &Value) -> Result<(), Refusal>
+// Whether a record may have this name, and hold this under this greatest count. The name is judged
+// first.
+pub(crate) fn check(name: &[u8], count: u32, held: &Held) -> Result<(), Refusal>
     ensures { MatchResult result (λ _.
-        IsName record_name_limit name.now × HoldsValue count (elements value.now))
-        (IsUnfit name.now count (elements value.now)) }
+        IsName record_name_limit name.now × HoldsValue count held.now)
+        (IsUnfit name.now count held.now) }
 {
     RecordName::read(name)?;
-    check_value(count, value)?;
+    check_held(count, held)?;
     Ok(())
 }
 
-// Whether a record may have this value under this greatest count.
-pub(crate) fn check_value(count: u32, value: &Value) -> Result<(), Refusal>
-    ensures { MatchResult result (λ _. HoldsValue count (elements value.now))
-        (λ e. (e ≡ BadCount) × (HoldsValue count (elements value.now) → ⊥)) }
+// Whether a record may hold this under this greatest count.
+pub(crate) fn check_held(count: u32, held: &Held) -> Result<(), Refusal>
+    ensures { MatchResult result (λ _. HoldsValue count held.now)
+        (λ e. (e ≡ BadCount) × (HoldsValue count held.now → ⊥)) }
 {
     let limit = count as usize;
-    let present = value.count();
+    let present = held.value().count();
     if present == 0 || present > limit || limit > ELEMENT_LIMIT {
         return Err(Refusal::BadCount);
     }

@@ -10,6 +10,7 @@ ghost use Rattle.ca_records.specs.Records.{AreApart, Defines, Holds, IsServed, N
 
 use crate::record::{Record, check};
 use ca_dbr::{Meta, Value};
+use ca_display::Held;
 use ca_text::Refusal;
 use std::alloc::{AllocError, Global};
 use std::collections::BTreeMap;
@@ -87,13 +88,13 @@ impl Records {
         self.places.get(name).copied()
     }
 
-    /// The present value of the record of this name.
-    pub fn read(&self, name: &[u8]) -> Result<&Value, Refusal>
-        ensures { MatchResult result (λ value. Holds self.now name.now (elements value.now))
+    /// What the record of this name holds.
+    pub fn read(&self, name: &[u8]) -> Result<&Held, Refusal>
+        ensures { MatchResult result (λ held. Holds self.now name.now held.now)
             (λ e. (e ≡ UnknownRecord) × (IsServed self.now name.now → ⊥)) }
     {
         match self.find(name) {
-            Some(place) => Ok(self.at(place).value()),
+            Some(place) => Ok(self.at(place).held()),
             None => Err(Refusal::UnknownRecord),
         }
     }
@@ -115,7 +116,7 @@ impl Records {
           meta = unset;
         }) result self.new }
     {
-        self.add(name, count, slow, value, Meta::ZERO)
+        self.add(name, count, slow, Held::of(value), Meta::ZERO)
     }
 
     /// Adds a record after the others.
@@ -124,7 +125,7 @@ impl Records {
         name: &[u8],
         count: u32,
         slow: bool,
-        value: Value,
+        held: Held,
         meta: Meta,
     ) -> Result<(), Refusal>
         requires { IsServed self.old name.now → ⊥ }
@@ -132,18 +133,18 @@ impl Records {
           name = name.now;
           count = count;
           slow = slow;
-          value = elements value;
+          value = held;
           meta = meta;
         }) result self.new }
     {
-        check(name, count, &value)?;
+        check(name, count, &held)?;
         let alloc = *self.list.allocator();
         let own = Vec::from_slice(alloc, name)?;
         let key = Vec::from_slice(alloc, name)?;
         self.list.reserve(1)?;
         self.places.insert(key, self.list.len())?;
         self.list
-            .push_reserved(Record::new(own, count, slow, value, meta));
+            .push_reserved(Record::new(own, count, slow, held, meta));
         Ok(())
     }
 
@@ -164,14 +165,12 @@ impl Records {
         requires { IsServed self.old other.now.name → ⊥ }
         ensures { OnOk result (self.new ≡ self.old ++ other.now ∷ []) }
     {
-        let Ok(value) = other.value().copy(*self.list.allocator()) else {
-            return Err(AllocError);
-        };
+        let held = other.held().copy(*self.list.allocator())?;
         match self.add(
             other.name(),
             other.count(),
             other.is_slow(),
-            value,
+            held,
             *other.meta(),
         ) {
             Ok(()) => Ok(()),

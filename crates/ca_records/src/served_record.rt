@@ -8,7 +8,7 @@ ghost use Rattle.ca_records.specs.Puts.{new_record, with_value, with_waiting, wi
 ghost use Rattle.ca_records.specs.Layout.{IsFit, waiting_put};
 ghost use Rattle.ca_records.specs.Writes.{BeginsOn, FinishesOn, Takes, is_of, must_wait};
 ghost use Rattle.ca_records.specs.Judging.{more_waiting};
-ghost use Rattle.ca_records.specs.Over.{PutsOver, WritesOver};
+ghost use Rattle.ca_records.specs.Over.{PutsOver, WritesOver, in_place_of};
 ghost use Rattle.ca_records.specs.declared.puts.Begun.TheVariants.{Waiting};
 
 use crate::judged::{Judged, judge};
@@ -115,7 +115,12 @@ impl ServedRecord {
     {
         let is_crowded = self.is_crowded(&put);
         let alloc = *self.waiting.allocator();
-        match judge(alloc, value, self.record.value().base_type(), is_crowded) {
+        match judge(
+            alloc,
+            value,
+            self.record.held().value().base_type(),
+            is_crowded,
+        ) {
             Judged::Refused(status) => Ok(Begun::Refused(status)),
             Judged::NoMemory => Err(AllocError),
             Judged::Fits(value) => {
@@ -178,9 +183,9 @@ impl ServedRecord {
         stamp: Stamp,
         is_countable: bool,
     ) -> Result<Begun, AllocError>
-        requires { IsFit self.old.state (elements value) }
-        ensures takes { IfOk result (λ begun.
-            Takes stamp self.old put (elements value) begun self.new) }
+        requires { IsFit self.old.state (in_place_of self.old.state.value (elements value)) }
+        ensures takes { IfOk result (λ begun. Takes stamp self.old put
+            (in_place_of self.old.state.value (elements value)) begun self.new) }
         ensures countable { is_countable ≡ false → more_waiting result ≡ 0 }
         ensures memory { OnErr result ((must_wait self.old put ≡ true) × (self.new ≡ self.old)) }
     {
@@ -204,22 +209,26 @@ impl ServedRecord {
 
     // Lets a put wait after the others.
     fn wait(&mut self, put: Put, value: Value) -> Result<Begun, AllocError>
-        requires { IsFit self.old.state (elements value) }
+        requires { IsFit self.old.state (in_place_of self.old.state.value (elements value)) }
         ensures waits { IfOk result (λ begun.
             (begun ≡ Waiting)
-            × (self.new ≡ with_waiting (record { put = put; value = elements value }) self.old)) }
+            × (self.new ≡ with_waiting
+            (record { put = put; value = in_place_of self.old.state.value (elements value) })
+            self.old)) }
         ensures memory { OnErr result (self.new ≡ self.old) }
     {
+        let held = self.record.held().with_value(value)?;
         self.waiting.reserve(1)?;
-        self.waiting.push_back_reserved(QueuedPut { put, value });
+        self.waiting.push_back_reserved(QueuedPut { put, held });
         Ok(Begun::Waiting)
     }
 
     // Sets its value, and what goes with it. In line, so that the value goes there in registers.
     #[inline(always)]
     pub(crate) fn apply(&mut self, value: Value, meta: Meta)
-        requires { IsFit self.old.state (elements value) }
-        ensures { self.new ≡ with_value (elements value) meta self.old }
+        requires { IsFit self.old.state (in_place_of self.old.state.value (elements value)) }
+        ensures { self.new
+            ≡ with_value (in_place_of self.old.state.value (elements value)) meta self.old }
     {
         self.spare = Some(self.record.set(value, meta));
     }
@@ -242,7 +251,7 @@ impl ServedRecord {
                 Some((ended, None))
             }
             Some(next) => {
-                self.record.set(next.value, stamp.meta());
+                self.record.set_held(next.held, stamp.meta());
                 self.busy = Some(next.put);
                 Some((ended, Some(next.put)))
             }

@@ -2,7 +2,8 @@
 //! element, the end of a busy put, withdrawal, and posts. `served_record.rt` does the work.
 ghost use Rattle.std.specs.Prelude.{◌≡◌, false, true};
 ghost use Rattle.ca_dbr.specs.Elements.{elements};
-ghost use Rattle.ca_records.specs.Store.{IsThere, TakesAt};
+ghost use Rattle.ca_dbr.specs.Held.{displayed_by};
+ghost use Rattle.ca_records.specs.Store.{IsThere, TakesAt, display_at, records_of};
 ghost use Rattle.ca_records.specs.Writes.{Begins, CanPutOne, CanWriteOne, Finishes, FinishesAt};
 ghost use Rattle.ca_records.specs.Writes.{Posts, PutsOne, Withdraws, WritesOne};
 
@@ -134,18 +135,20 @@ impl ServedRecords {
         self.waiting -= gone;
     }
 
-    /// Sets the value of the record of this name, and what goes with it. Tells its place.
+    /// Sets the value of the record of this name, and what goes with it. Tells its place. Display
+    /// data stay.
     ///
     /// Refused as UnknownRecord if no record has the name, as BadType if the value is not of its
     /// type, and as BadCount if it has no element or more than the greatest count.
     pub fn post(&mut self, name: &[u8], value: Value, meta: Meta) -> Result<usize, Refusal>
-        ensures { Posts self.old name.now (elements value) meta result self.new }
+        ensures { Posts self.old name.now
+            (displayed_by (display_at (records_of self.old) name.now) (elements value)) meta
+            result self.new }
     {
         let Some(place) = self.find(name) else {
             return Err(Refusal::UnknownRecord);
         };
         self.at(place).state().check_post(&value)?;
-        value.know();
         self.slots[place].record_mut().apply(value, meta);
         Ok(place)
     }

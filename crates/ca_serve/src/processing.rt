@@ -102,7 +102,7 @@ fn value_of<L: Ledger>(
         return None;
     }
     match locked.state.core().busy_value(name) {
-        Some(value) => Some(value.copy(alloc)),
+        Some(held) => Some(held.value().copy(alloc)),
         None => None,
     }
 }

@@ -2,11 +2,13 @@
 ghost use Rattle.std.specs.Prelude.{◌≡◌, Bool, IfErr, List, false, ℕ};
 ghost use Rattle.ca_arena.specs.declared.handle.Handle.{Handle};
 ghost use Rattle.ca_dbr.specs.Elements.{elements};
+ghost use Rattle.ca_dbr.specs.Held.{displayed_by};
 ghost use Rattle.ca_ids.specs.Table.{has_free};
 ghost use Rattle.ca_model.specs.Server.{Server};
 ghost use Rattle.ca_model.specs.ServerCalls.{AddsRecord, Beacons, Posts, Removes, stamped};
 ghost use Rattle.ca_model.specs.ServerSteps.{Accepts, Cuts, Gives, Pumps, Update};
 ghost use Rattle.ca_records.specs.Record.{unset};
+ghost use Rattle.ca_records.specs.Store.{display_at};
 ghost use Rattle.ca_server_circuit.specs.CircuitOutput.{bytes_of};
 ghost use Rattle.ca_server_core.specs.Pumping.{HandsOver};
 ghost use Rattle.ca_text.specs.declared.refusal.Refusal.TheVariants.{OutOfMemory};
@@ -88,17 +90,18 @@ impl<L: Ledger> State<L> {
         self.core.stamp(seconds, nanos);
     }
 
-    /// The record of this name has this value from now on, with its alarm and its time stamp. It
-    /// reaches all subscriptions on the record whose mask shares a bit with this one, on all
-    /// circuits. A circuit's end without memory for an update has ended.
+    /// The record of this name has this value from now on, with its alarm and its time stamp;
+    /// display data stay. It reaches all subscriptions on the record whose mask shares a bit with
+    /// this one, on all circuits. A circuit's end without memory for an update has ended.
     ///
     /// Refused as UnknownRecord if no record has the name, as BadType if the value is not of
     /// its type, and as BadCount if it has no element or more than the greatest count. A
     /// refusal changes nothing.
     pub fn post(&mut self, name: &[u8], value: Value, meta: Meta, mask: u16) -> Result<(), Refusal>
-        ensures call { (gone : Handle → Bool)
-            × Posts self.old.core name.now (record { value = elements value; meta = meta }) mask
-            gone result self.new.core }
+        ensures call { (gone : Handle → Bool) × Posts self.old.core name.now (record {
+          value = displayed_by (display_at self.old.core.records name.now) (elements value);
+          meta = meta;
+        }) mask gone result self.new.core }
         ensures counts { (self.new.count ≡ self.old.count)
             × (self.new.credits.items ≡ self.old.credits.items) }
     {

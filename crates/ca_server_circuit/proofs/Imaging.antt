@@ -1,5 +1,5 @@
 -- The image of what is shown, made in its place.
-use Rattle.std.proofs.Common.{◌≡◌, ℕ, ◌<◌, ◌⊎◌, inl, inr, List, [], length, Option, Some, Result, Ok, Err, refl, sym, ap, ◌∙◌, subst}
+use Rattle.std.proofs.Common.{◌≡◌, ℕ, ◌<◌, ◌⊎◌, inl, inr, List, [], length, ◌-◌, Option, None, Some, Result, Ok, Err, refl, sym, ap, ◌∙◌, subst}
 use Rattle.std.specs.Prelude.{IfOk, replicate}
 use Rattle.std.proofs.lemmas.Bool.{both_ways}
 use Rattle.std.proofs.lemmas.List.{append-nil}
@@ -7,14 +7,15 @@ use Rattle.ca_text.specs.declared.refusal.Refusal.{Refusal}
 use Rattle.ca_text.specs.declared.refusal.Refusal.TheVariants as refusal
 use Rattle.ca_dbr.specs.declared.data_type.DataType.{DataType}
 use Rattle.ca_dbr.specs.declared.value.Meta.{Meta}
-use Rattle.ca_dbr.specs.Conversion.{Fails}
-use Rattle.ca_dbr.specs.Elements.{Elements, IsValue, count_of}
+use Rattle.ca_dbr.specs.Conversion.{Fails, converted, with_data}
+use Rattle.ca_dbr.specs.Display.{DisplayData}
+use Rattle.ca_dbr.specs.Elements.{Elements, count_of, displayed}
+use Rattle.ca_dbr.specs.Held.{IsHeldValue, display_of, displayed_by}
 use Rattle.ca_dbr.specs.Image.{image}
-use Rattle.ca_dbr.specs.Shown.{WritesShown, shown}
+use Rattle.ca_dbr.specs.Shown.{WritesShown, first_elements, shown, zeros_behind}
 use Rattle.ca_dbr.specs.Types.{size_of_image, type_number}
-use Rattle.ca_dbr.proofs.OneReading.{length-image}
+use Rattle.ca_dbr.proofs.Helds.{length-held, shown-held}
 use Rattle.ca_dbr.proofs.Shows.{shown-is}
-use Rattle.ca_dbr.proofs.Valued.{shown-valued}
 use Rattle.ca_text.specs.Status.{get_fail, normal}
 use Rattle.ca_link.specs.Calls.{IsOpen, QueuesMade}
 use Rattle.ca_link.specs.Link.{LinkState}
@@ -50,7 +51,7 @@ module _ (n count : ℕ) (e : Elements) (m : Meta) where
   stays : (old new : List ℕ) → new ≡ old → Extends old new
   stays old new same = ([], same ∙ sym (append-nil old))
 
-  pub makes-shown : (old new : List ℕ) (r : Result (Unit {0}) Refusal) → WritesShown n count e m old r new → Makes (shown_image n count e m) old r new
+  makes-shown : (old new : List ℕ) (r : Result (Unit {0}) Refusal) → WritesShown n count e m old r new → Makes (shown_image n count e m) old r new
   makes-shown old new (Ok u) x =
       (image x.0 x.2.0 m, ap (λ (o : Option DataType). image_as count e m o) (type-of-number x.0 n x.1) ∙ ap (λ (y : Result Elements Refusal). image_in x.0 m y) x.2.1, x.2.2)
   makes-shown old new (Err refusal.OutOfMemory) x = stays old new x.0
@@ -62,13 +63,13 @@ module _ (n count : ℕ) (e : Elements) (m : Meta) where
     same : shown_image n count e m ≡ image_in t m (shown e count t.base)
     same = ap (λ (o : Option DataType). image_as count e m o) typed
 
-    pub image-sized : (size : ℕ) → IsValue e → size ≡ size_of_image t count → IfOk (shown_image n count e m) (λ bytes. length bytes ≡ size)
+    pub image-sized : (size : ℕ) → IsHeldValue e → size ≡ size_of_image t count → IfOk (shown_image n count e m) (λ bytes. length bytes ≡ size)
     image-sized size valued is = subst (λ (x : Result (List ℕ) Refusal). IfOk x (λ bytes. length bytes ≡ size)) (sym same) (by (shown e count t.base) refl)
       where
         by : (x : Result Elements Refusal) → shown e count t.base ≡ x → IfOk (image_in t m x) (λ bytes. length bytes ≡ size)
         by (Ok f) shows =
             let kind = shown-is e count t.base f shows in
-            length-image t f m (sym kind.0) (shown-valued e count t.base f valued shows) ∙ ap (λ (k : ℕ). size_of_image t k) kind.1 ∙ sym is
+            length-held t f m (sym kind.0) (shown-held e count t.base f valued shows) ∙ ap (λ (k : ℕ). size_of_image t k) kind.1 ∙ sym is
         by (Err r) shows = tt
 
     -- the elements of an image that was made
@@ -102,6 +103,26 @@ module _ (n count : ℕ) (e : Elements) (m : Meta) where
             again : ◌≡◌ {A = Result (List ℕ) Refusal} (Err why) (Err r) → ◌≡◌ {A = Result Elements Refusal} (Err r) (Err why)
             again e = cc
 
+-- ---- display data are not shown
+
+alike : (d : DisplayData) (t : DataType) (m : Meta) (n : ℕ) (r : Result Elements Refusal) → image_in t m (zeros_behind n (with_data d r)) ≡ image_in t m (zeros_behind n r)
+alike d t m n (Ok e) = refl
+alike d t m n (Err r) = refl
+
+alike-as : (d : DisplayData) (count : ℕ) (e : Elements) (m : Meta) (o : Option DataType) → image_as count (displayed d e) m o ≡ image_as count e m o
+alike-as d count e m None = refl
+alike-as d count e m (Some t) = alike d t m (count - count_of e) (converted (first_elements count e) t.base)
+
+image-alike : (o : Option DisplayData) (n count : ℕ) (e : Elements) (m : Meta) → shown_image n count (displayed_by o e) m ≡ shown_image n count e m
+image-alike None n count e m = refl
+image-alike (Some d) n count e m = alike-as d count e m (type_of n)
+
+-- what is written of the value is the image of what is held
+pub makes-held : (h e : Elements) (n count : ℕ) (m : Meta) (old new : List ℕ) (r : Result (Unit {0}) Refusal) → displayed_by (display_of h) e ≡ h → WritesShown n count e m old r new → Makes (shown_image n count h m) old r new
+makes-held h e n count m old new r same writes =
+    let alike-so : shown_image n count e m ≡ shown_image n count h m = sym (image-alike (display_of h) n count e m) ∙ ap (λ (x : Elements). shown_image n count x m) same in
+    subst (λ (y : Result (List ℕ) Refusal). Makes y old r new) alike-so (makes-shown n count e m old new r writes)
+
 -- ---- what a link that was to be given such a message has
 
 module _ (head : Fields) (made : Result (List ℕ) Refusal) (old new : LinkState) where
@@ -125,7 +146,7 @@ module _ (r : RecordState) (m : Fields) (a : ReadSize) (order : IsInOrder r m a)
   shown-so : shown e a.count order.t.base ≡ shown r.value (read_count r m) order.t.base
   shown-so = ap (λ (x : Elements). shown x a.count order.t.base) e-is ∙ ap (λ (k : ℕ). shown r.value k order.t.base) order.count
 
-  pub read-sized : IsValue e → IfOk (shown_image n a.count e meta) (λ bytes. length bytes ≡ a.size)
+  pub read-sized : IsHeldValue e → IfOk (shown_image n a.count e meta) (λ bytes. length bytes ≡ a.size)
   read-sized valued = image-sized n a.count e meta order.t typed-so a.size valued (order.size ∙ ap (λ (k : ℕ). size_of_image order.t k) (sym order.count))
 
   pub read-made : (head : Fields) → head ≡ value_reply m a.count [] → (bytes : List ℕ) → shown_image n a.count e meta ≡ Ok bytes → ShowsRead r m (with_payload bytes head)
@@ -158,7 +179,7 @@ module _ (w : Wanted) (v : Stored) (t : DataType) (numbered : type_number t ≡ 
   update-so : shown e n t.base ≡ shown v.value (update_count w v) t.base
   update-so = ap (λ (x : Elements). shown x n t.base) e-is ∙ ap (λ (k : ℕ). shown v.value k t.base) n-is
 
-  pub update-sized : (size : ℕ) → IsValue e → size ≡ size_of_image t n → IfOk (shown_image w.data_type n e meta) (λ bytes. length bytes ≡ size)
+  pub update-sized : (size : ℕ) → IsHeldValue e → size ≡ size_of_image t n → IfOk (shown_image w.data_type n e meta) (λ bytes. length bytes ≡ size)
   update-sized size valued is = image-sized w.data_type n e meta t wanted-so size valued is
 
   pub update-made : (head : Fields) → head ≡ update w.data_type n normal w.id [] → (bytes : List ℕ) → shown_image w.data_type n e meta ≡ Ok bytes → ShowsTo w v (with_payload bytes head)

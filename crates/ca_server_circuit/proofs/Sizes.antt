@@ -4,13 +4,13 @@ use Rattle.std.proofs.lemmas.List.{length-replicate}
 use Rattle.ca_text.specs.declared.refusal.Refusal.{Refusal}
 use Rattle.ca_text.proofs.Places.{some_is}
 use Rattle.ca_dbr.specs.declared.data_type.DataType.{DataType}
-use Rattle.ca_dbr.specs.Elements.{Elements, IsValue}
+use Rattle.ca_dbr.specs.Elements.{Elements}
+use Rattle.ca_dbr.specs.Held.{IsHeldValue}
 use Rattle.ca_dbr.specs.Image.{image}
 use Rattle.ca_dbr.specs.Shown.{shown}
 use Rattle.ca_dbr.specs.Types.{size_of_image, type_number}
-use Rattle.ca_dbr.proofs.OneReading.{length-image}
+use Rattle.ca_dbr.proofs.Helds.{length-held, shown-held}
 use Rattle.ca_dbr.proofs.Shows.{shown-is}
-use Rattle.ca_dbr.proofs.Valued.{shown-valued}
 use Rattle.ca_wire.specs.declared.requests.Wanted.{Wanted}
 use Rattle.ca_wire.specs.Fields.{Fields}
 use Rattle.ca_wire.proofs.Padding.{length-padded}
@@ -21,13 +21,13 @@ use Rattle.ca_server_subscriptions.specs.Subscribed.{Subscribed}
 use Rattle.ca_server_circuit.specs.Concerned.{ShowsWithin, SizesAt}
 use Rattle.ca_server_circuit.proofs.Types.{type-of-number}
 
-module _ (w : Wanted) (v : Stored) (valued : IsValue v.value) where
+module _ (w : Wanted) (v : Stored) (valued : IsHeldValue v.value) where
   -- its image, or as many zeros, and their padding
   in-type : (t : DataType) (r : Result Elements Refusal) → shown v.value (update_count w v) t.base ≡ r → length (update_in w v t r).payload ≤ size_of_image t (update_count w v) + 7
   in-type t (Ok e) shows =
       let kind = shown-is v.value (update_count w v) t.base e shows in
       let len : length (image t e v.meta) ≡ size_of_image t (update_count w v) =
-      length-image t e v.meta (sym kind.0) (shown-valued v.value (update_count w v) t.base e valued shows) ∙ ap (λ (n : ℕ). size_of_image t n) kind.1 in
+      length-held t e v.meta (sym kind.0) (shown-held v.value (update_count w v) t.base e valued shows) ∙ ap (λ (n : ℕ). size_of_image t n) kind.1 in
       let all = length-padded (image t e v.meta) in
       omega (arith, len, all)
   in-type t (Err r) shows =

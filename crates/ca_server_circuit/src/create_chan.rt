@@ -91,7 +91,7 @@ impl End {
         let channel = ServedChannel::new(self.alloc, Cid::new(head.header.p1), name, place)?;
         let handle = self.channels.open(channel)?;
         let sid = Sid::new(WireId::of(handle).number());
-        let data_type = state.value().base_type().number();
+        let data_type = state.held().value().base_type().number();
         let waited = self.link.out_bytes().len();
         let request = message_without_payload(self.alloc, &head.header);
         send(&mut self.link, &rights_reply(self.alloc, &request, rights))?;

@@ -104,7 +104,7 @@ impl End {
         ensures err { OnErr result (self.new ≡ self.old) }
     {
         let name = Vec::from_slice(self.alloc, of.name())?;
-        let update = Update::of(self.alloc, of.value(), *of.meta())?;
+        let update = Update::of(self.alloc, of.held(), *of.meta())?;
         let mask = mask_in(self.payload(head));
         self.subscriptions
             .begin(named_by(&head.header), name, mask, update)?;
@@ -155,7 +155,7 @@ fn event_fault(
     if size > PAYLOAD_LIMIT {
         return Some(Status::BADCOUNT);
     }
-    if !has_conversion(of.value().base_type(), data_type.base) {
+    if !has_conversion(of.held().value().base_type(), data_type.base) {
         return Some(Status::NOCONVERT);
     }
     if others >= CIRCUIT_QUEUES * QUEUE_SUBSCRIPTIONS {

@@ -158,7 +158,7 @@ fn count_of(of: &Record, wanted: &Wanted) -> u32
     ensures count { result ≡ read_count of.now (read_request wanted.now) }
     ensures state { IsRecord of.now }
 {
-    let present = of.value().count() as u32;
+    let present = of.held().value().count() as u32;
     let count = wanted.count;
     if count == 0 { present } else { count }
 }
@@ -178,12 +178,12 @@ fn show(
         × (link.new ≡ with_sent (reply ∷ []) link.old)) }
     ensures err { OnErr result (link.new ≡ link.old) }
 {
-    let value = of.value();
-    value.know();
+    let held = of.held();
+    held.know();
     let image = Shown {
         data_type: wanted.data_type,
         count: asked.count,
-        value,
+        held,
         meta: of.meta(),
     };
     let head = read_head(alloc, wanted, asked.count);

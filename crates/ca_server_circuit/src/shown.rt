@@ -1,5 +1,6 @@
 //! Payloads that show a value in a type, written in their place.
-use ca_dbr::{Meta, Value, write_shown};
+use ca_dbr::{Meta, write_shown};
+use ca_display::Held;
 use ca_text::Refusal;
 use ca_wire::Payload;
 
@@ -8,18 +9,23 @@ use ca_wire::Payload;
 pub(crate) struct Shown<'a> {
     pub(crate) data_type: u16,
     pub(crate) count: u32,
-    pub(crate) value: &'a Value,
+    pub(crate) held: &'a Held,
     pub(crate) meta: &'a Meta,
 }
 
 impl Payload for Shown<'_> {
-    ghost use Rattle.ca_dbr.specs.Elements.{elements};
     ghost use Rattle.ca_server_circuit.specs.Imaging.{shown_image};
 
-    ghost made = { λ p. shown_image p.data_type p.count (elements p.value.now) p.meta.now };
+    ghost made = { λ p. shown_image p.data_type p.count p.held.now p.meta.now };
 
     fn put(&self, out: &mut Vec<u8>) -> Result<(), Refusal> {
-        write_shown(self.data_type, self.count, self.value, self.meta, out)
+        write_shown(
+            self.data_type,
+            self.count,
+            self.held.value(),
+            self.meta,
+            out,
+        )
     }
 }
 

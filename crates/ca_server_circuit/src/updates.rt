@@ -54,7 +54,7 @@ impl End {
         ensures link { self.new.link ≡ self.old.link }
         ensures channels { self.new.channels ≡ self.old.channels }
     {
-        let posted = Posted::of(of.value(), of.meta(), shared);
+        let posted = Posted::of(of.held(), of.meta(), shared);
         let on = self.subscriptions.post(of.name(), mask, &posted)?;
         Ok(on)
     }
@@ -66,13 +66,13 @@ impl End {
         ensures { IsCopy (stored_of of.now) (option_map arc_value result) }
     {
         let wanted = self.subscriptions.wanted_on(of.name())?;
-        let present = of.value().count() as u32;
+        let present = of.held().value().count() as u32;
         let count = if wanted.count == 0 {
             present
         } else {
             wanted.count
         };
-        SharedUpdate::of(self.alloc, of.value(), of.meta(), wanted.data_type, count)
+        SharedUpdate::of(self.alloc, of.held(), of.meta(), wanted.data_type, count)
     }
 
     /// A post to this record and then a pump, if they leave no more than one update in the
@@ -204,7 +204,7 @@ fn shown_size(wanted: &Wanted, shown: &Update) -> usize
     let Ok(size) = image_size(wanted.data_type, count) else {
         unreachable!()
     };
-    shown.value().know();
+    shown.held().know();
     size + 7
 }
 
@@ -249,7 +249,7 @@ fn shown_scalar(wanted: &Wanted, shown: &Update) -> Option<u64>
     if wanted.count > 1 {
         return None;
     }
-    shown.value().scalar(wanted.data_type)
+    shown.held().value().scalar(wanted.data_type)
 }
 
 /// The eight bytes that show a record's value as a subscription asks, if it has one element, of the
@@ -263,7 +263,7 @@ fn value_scalar(wanted: &Wanted, of: &Record) -> Option<u64>
     if wanted.count > 1 {
         return None;
     }
-    of.value().scalar(wanted.data_type)
+    of.held().value().scalar(wanted.data_type)
 }
 
 /// Puts an update of one element after what waits on an open link. Without memory the link is as it
@@ -313,12 +313,12 @@ fn show_image(
     let Ok(size) = image_size(data_type, count) else {
         unreachable!()
     };
-    let value = shown.value();
-    value.know();
+    let held = shown.held();
+    held.know();
     let image = Shown {
         data_type,
         count,
-        value,
+        held,
         meta: shown.meta(),
     };
     let head = update_head(alloc, answered(id, Status::NORMAL, data_type, count));
@@ -381,6 +381,6 @@ fn count_for(count: u32, update: &Update) -> u32
     ensures count { result ≡ (if count == 0 then count_of update.now.value else count) }
     ensures limit { result ≤ element_limit }
 {
-    let present = update.value().count() as u32;
+    let present = update.held().value().count() as u32;
     if count == 0 { present } else { count }
 }

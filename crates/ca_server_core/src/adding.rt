@@ -6,6 +6,7 @@ ghost use Rattle.ca_records.specs.Record.{unset};
 
 use crate::server::ServerCore;
 use ca_dbr::Value;
+use ca_display::Held;
 use ca_text::Refusal;
 
 impl ServerCore {
@@ -28,7 +29,7 @@ impl ServerCore {
           meta = unset;
         }) behind result self.new }
     {
-        self.records.add(name, count, slow, value)?;
+        self.records.add(name, count, slow, Held::of(value))?;
         Ok(())
     }
 }

@@ -1,7 +1,6 @@
 //! What a caller may ask of a server: a record, its busy value, who waits first for it, and whether
 //! an end is open.
 ghost use Rattle.std.specs.Prelude.{◌≡◌, option_map};
-ghost use Rattle.ca_dbr.specs.Elements.{elements};
 ghost use Rattle.ca_ids.specs.Table.{under};
 ghost use Rattle.ca_server_circuit.specs.Circuits.{is_open};
 ghost use Rattle.ca_server_core.specs.Asking.{busy_value, first_waiting, record_now};
@@ -9,7 +8,7 @@ ghost use Rattle.ca_server_core.specs.Asking.{busy_value, first_waiting, record_
 use crate::server::ServerCore;
 use crate::stepping::is_open;
 use ca_arena::Handle;
-use ca_dbr::Value;
+use ca_display::Held;
 use ca_records::Record;
 use ca_records::for_histories::waiting_put;
 
@@ -29,9 +28,9 @@ impl ServerCore {
         Some(waiting_put(served, 0).circuit)
     }
 
-    /// The value of the record of this name, if a put makes it busy: what a device is to process.
-    pub fn busy_value(&self, name: &[u8]) -> Option<&Value>
-        ensures { option_map (λ v. elements v.now) result ≡ busy_value self.now name.now }
+    /// What the record of this name holds, if a put makes it busy: what a device is to process.
+    pub fn busy_value(&self, name: &[u8]) -> Option<&Held>
+        ensures { option_map (λ h. h.now) result ≡ busy_value self.now name.now }
     {
         let Some(place) = self.records.find(name) else {
             return None;
@@ -40,10 +39,10 @@ impl ServerCore {
         if !served.is_busy() {
             return None;
         }
-        Some(served.state().value())
+        Some(served.state().held())
     }
 
-    /// The record of this name as it is now: its value, the alarm of that and its stamp,
+    /// The record of this name as it is now: what it holds, the alarm of its value and its stamp,
     /// and what it may hold.
     pub fn record(&self, name: &[u8]) -> Option<&Record>
         ensures { option_map (λ r. r.now) result ≡ record_now self.now name.now }

@@ -4,9 +4,10 @@ ghost use Rattle.std.specs.Prelude.{◌≡◌, Bool, false, option_map};
 ghost use Rattle.std.specs.Arc.{arc_value};
 ghost use Rattle.ca_arena.specs.declared.handle.Handle.{Handle};
 ghost use Rattle.ca_dbr.specs.Elements.{elements};
+ghost use Rattle.ca_dbr.specs.Held.{displayed_by};
 ghost use Rattle.ca_ids.specs.Table.{under};
 ghost use Rattle.ca_model.specs.ServerCalls.{Posts};
-ghost use Rattle.ca_records.specs.Store.{IsThere, records_of};
+ghost use Rattle.ca_records.specs.Store.{IsThere, display_at, records_of};
 ghost use Rattle.ca_server_circuit.specs.Posting.{IsCopyAt};
 ghost use Rattle.ca_server_core.specs.Covering.{AreListed, Covers};
 ghost use Rattle.ca_server_core.specs.Reaching.{IsListed, PostsIn, ReachesFrom, ReachesNext};
@@ -25,17 +26,18 @@ use ca_text::Refusal;
 use std::sync::Arc;
 
 impl ServerCore {
-    /// The record of this name has this value from now on, with its alarm and its time stamp. It
-    /// reaches all subscriptions on the record whose mask shares a bit with this one, on all
-    /// circuits. A circuit's end without memory for an update has ended.
+    /// The record of this name has this value from now on, with its alarm and its time stamp;
+    /// display data stay. It reaches all subscriptions on the record whose mask shares a bit with
+    /// this one, on all circuits. A circuit's end without memory for an update has ended.
     ///
     /// Refused as UnknownRecord if no record has the name, as BadType if the value is not of
     /// its type, and as BadCount if it has no element or more than the greatest count. A
     /// refusal changes nothing.
     pub fn post(&mut self, name: &[u8], value: Value, meta: Meta, mask: u16) -> Result<(), Refusal>
-        ensures { (gone : Handle → Bool)
-            × Posts self.old name.now (record { value = elements value; meta = meta }) mask gone
-            result self.new }
+        ensures { (gone : Handle → Bool) × Posts self.old name.now (record {
+          value = displayed_by (display_at self.old.records name.now) (elements value);
+          meta = meta;
+        }) mask gone result self.new }
     {
         let place = self.records.post(name, value, meta)?;
         post_to_all(
@@ -126,7 +128,7 @@ fn share_on(
     ensures { IsCopyAt place records.now (option_map arc_value result) }
 {
     let record = records.at(place).state();
-    if others == 0 || record.value().count() < SHARED_COUNT {
+    if others == 0 || record.held().value().count() < SHARED_COUNT {
         return None;
     }
     let found = circuits.by_handle(circuit)?;

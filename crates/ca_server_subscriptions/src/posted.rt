@@ -2,19 +2,20 @@
 ghost use Rattle.std.specs.Prelude.{◌≡◌, ◌≤◌, option_map};
 ghost use Rattle.std.specs.Arc.{arc_value};
 ghost use Rattle.ca_text.specs.Limits.{element_limit};
-ghost use Rattle.ca_dbr.specs.Elements.{count_of, elements};
+ghost use Rattle.ca_dbr.specs.Elements.{count_of};
 ghost use Rattle.ca_server_subscriptions.specs.Sharing.{IsCopy};
 
 use crate::shared_update::SharedUpdate;
-use ca_dbr::{Meta, Value};
+use ca_dbr::Meta;
+use ca_display::Held;
 use std::marker::Model;
 use std::sync::Arc;
 
-/// A value that is posted, with its alarm and its time stamp, and the copy of it that the circuits
-/// share, if there is one.
+/// What a record holds as it is posted, with its alarm and its time stamp, and the copy of it that
+/// the circuits share, if there is one.
 #[derive(Drop)]
 pub struct Posted<'a> {
-    value: &'a Value,
+    held: &'a Held,
     meta: &'a Meta,
     shared: &'a Option<Arc<SharedUpdate>>,
 }
@@ -32,37 +33,33 @@ impl<'a> Model for Posted<'a> {
     ghost use Rattle.std.specs.Prelude.{◌≤◌, option_map};
     ghost use Rattle.std.specs.Arc.{arc_value};
     ghost use Rattle.ca_text.specs.Limits.{element_limit};
-    ghost use Rattle.ca_dbr.specs.Elements.{count_of, elements};
+    ghost use Rattle.ca_dbr.specs.Elements.{count_of};
     ghost use Rattle.ca_server_subscriptions.specs.Sharing.{IsCopy};
 
-    ghost view = { λ p. record { value = elements p.value.now; meta = p.meta.now } };
+    ghost view = { λ p. record { value = p.held.now; meta = p.meta.now } };
 
-    ghost invariant = { λ p. (count_of (elements p.value.now) ≤ element_limit)
-        × IsCopy (record { value = elements p.value.now; meta = p.meta.now })
+    ghost invariant = { λ p. (count_of p.held.now ≤ element_limit)
+        × IsCopy (record { value = p.held.now; meta = p.meta.now })
         (option_map arc_value p.shared.now) };
 }
 
 impl<'a> Posted<'a> {
-    /// This value, and the copy of it that is shared.
-    pub fn of(value: &'a Value, meta: &'a Meta, shared: &'a Option<Arc<SharedUpdate>>) -> Posted<'a>
-        requires few { count_of (elements value.now) ≤ element_limit }
-        requires same { IsCopy (record { value = elements value.now; meta = meta.now })
+    /// This, and the copy of it that is shared.
+    pub fn of(held: &'a Held, meta: &'a Meta, shared: &'a Option<Arc<SharedUpdate>>) -> Posted<'a>
+        requires few { count_of held.now ≤ element_limit }
+        requires same { IsCopy (record { value = held.now; meta = meta.now })
             (option_map arc_value shared.now) }
-        ensures { result ≡ record { value = elements value.now; meta = meta.now } }
+        ensures { result ≡ record { value = held.now; meta = meta.now } }
     {
-        Posted {
-            value,
-            meta,
-            shared,
-        }
+        Posted { held, meta, shared }
     }
 
-    // Its value.
-    pub(crate) fn value(&self) -> &Value
-        ensures value { elements result.now ≡ self.now.value }
+    // What the record holds.
+    pub(crate) fn held(&self) -> &Held
+        ensures held { result.now ≡ self.now.value }
         ensures limit { count_of self.now.value ≤ element_limit }
     {
-        self.value
+        self.held
     }
 
     // Its alarm and its time stamp.

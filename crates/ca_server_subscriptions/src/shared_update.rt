@@ -3,10 +3,11 @@
 ghost use Rattle.std.specs.Prelude.{◌≡◌, ◌≤◌, IfSome};
 ghost use Rattle.std.specs.Arc.{arc_value};
 ghost use Rattle.ca_text.specs.Limits.{element_limit};
-ghost use Rattle.ca_dbr.specs.Elements.{count_of, elements};
+ghost use Rattle.ca_dbr.specs.Elements.{count_of};
 ghost use Rattle.ca_server_subscriptions.specs.Sharing.{IsUpdateOf};
 
-use ca_dbr::{Meta, Value, write_shown};
+use ca_dbr::{Meta, write_shown};
+use ca_display::Held;
 use ca_text::{Command, Status};
 use ca_wire::Message;
 use std::alloc::Global;
@@ -16,11 +17,11 @@ use std::sync::Arc;
 /// Elements of a value from which on several circuits share it: a copy of fewer costs less.
 pub const SHARED_COUNT: usize = 1_024;
 
-/// A value with alarm and time stamp that several updates share, and such an update, in one type
-/// and of one number of elements.
+/// What a record held, with alarm and time stamp, that several updates share, and such an update,
+/// in one type and of one number of elements.
 #[derive(Drop)]
 pub struct SharedUpdate {
-    value: Value,
+    held: Held,
     meta: Meta,
     // To a subscription of id 0.
     update: Message,
@@ -38,32 +39,32 @@ impl Model for SharedUpdate {
 
     ghost use Rattle.std.specs.Prelude.{◌≤◌};
     ghost use Rattle.ca_text.specs.Limits.{element_limit};
-    ghost use Rattle.ca_dbr.specs.Elements.{count_of, elements};
+    ghost use Rattle.ca_dbr.specs.Elements.{count_of};
     ghost use Rattle.ca_server_subscriptions.specs.Sharing.{IsUpdateOf};
 
     ghost view = { λ s.
-        record { stored = record { value = elements s.value; meta = s.meta }; update = s.update } };
+        record { stored = record { value = s.held; meta = s.meta }; update = s.update } };
 
-    ghost invariant = { λ s. (count_of (elements s.value) ≤ element_limit)
-        × IsUpdateOf (record { value = elements s.value; meta = s.meta }) s.update };
+    ghost invariant = { λ s. (count_of s.held ≤ element_limit)
+        × IsUpdateOf (record { value = s.held; meta = s.meta }) s.update };
 }
 
 impl SharedUpdate {
-    /// One of this value, which it copies, with an update in this type of so many elements. None if
-    /// the value has no image of this type, or without memory.
+    /// One of this, which it copies, with an update in this type of so many elements. None if the
+    /// value has no image of this type, or without memory.
     pub fn of(
         alloc: Global,
-        value: &Value,
+        held: &Held,
         meta: &Meta,
         data_type: u16,
         count: u32,
     ) -> Option<Arc<SharedUpdate>>
-        requires { count_of (elements value.now) ≤ element_limit }
+        requires { count_of held.now ≤ element_limit }
         ensures { IfSome result (λ a. (arc_value a).stored
-            ≡ record { value = elements value.now; meta = meta.now }) }
+            ≡ record { value = held.now; meta = meta.now }) }
     {
         let mut image = Vec::new(alloc);
-        let Ok(()) = write_shown(data_type, count, value, meta, &mut image) else {
+        let Ok(()) = write_shown(data_type, count, held.value(), meta, &mut image) else {
             return None;
         };
         let command = Command::EventAdd.number();
@@ -71,11 +72,11 @@ impl SharedUpdate {
         let Ok(update) = Message::new(command, data_type, count, status, 0, image) else {
             return None;
         };
-        let Ok(value) = value.copy(alloc) else {
+        let Ok(held) = held.copy(alloc) else {
             return None;
         };
         let shared = SharedUpdate {
-            value,
+            held,
             meta: *meta,
             update,
         };
@@ -85,12 +86,12 @@ impl SharedUpdate {
         }
     }
 
-    // Its value.
-    pub(crate) fn value(&self) -> &Value
-        ensures value { elements result.now ≡ self.now.stored.value }
+    // What the record held.
+    pub(crate) fn held(&self) -> &Held
+        ensures held { result.now ≡ self.now.stored.value }
         ensures limit { count_of self.now.stored.value ≤ element_limit }
     {
-        &self.value
+        &self.held
     }
 
     // Its alarm and its time stamp.

@@ -1,28 +1,30 @@
 //! A value with alarm and time stamp that waits to be sent as an EVENT_ADD update. Its memory is
 //! used again for the next one, unless several circuits share it.
-ghost use Rattle.std.specs.Prelude.{◌≡◌, ◌≢◌, ◌≤◌, [], IfOk, IfSome, OnErr, OnOk};
+ghost use Rattle.std.specs.Prelude.{◌≡◌, ◌≢◌, ◌≤◌, ◌⊎◌, IfOk, IfSome, None, OnErr, OnOk};
 ghost use Rattle.std.specs.Arc.{arc_value};
 ghost use Rattle.ca_text.specs.Limits.{element_limit};
-ghost use Rattle.ca_dbr.specs.Elements.{count_of, elements};
+ghost use Rattle.ca_dbr.specs.Elements.{count_of};
+ghost use Rattle.ca_dbr.specs.Held.{display_of};
 ghost use Rattle.ca_server_subscriptions.specs.Sharing.{IsUpdateOf};
 
 use crate::posted::Posted;
 use crate::shared_update::SharedUpdate;
 use ca_dbr::{Meta, Value};
+use ca_display::Held;
 use std::alloc::{AllocError, Global};
 use std::marker::Model;
 use std::sync::Arc;
 
-/// An update that waits: a value of a record, with its alarm and its time stamp.
+/// An update that waits: what a record held, with its alarm and its time stamp.
 #[derive(Drop)]
 pub struct Update {
     kept: Kept,
 }
 
-// A value of its own, or one that it shares.
+// One of its own, or one that it shares.
 #[derive(Drop)]
 enum Kept {
-    Own(Value, Meta),
+    Own(Held, Meta),
     Shared(Arc<SharedUpdate>),
 }
 
@@ -47,18 +49,17 @@ impl Model for Update {
 }
 
 impl Update {
-    /// One of this value, which it copies. Refused without memory, only if there are elements.
-    pub fn of(alloc: Global, value: &Value, meta: Meta) -> Result<Update, AllocError>
-        requires { count_of (elements value.now) ≤ element_limit }
-        ensures ok { IfOk result (λ u. u ≡ record { value = elements value.now; meta = meta }) }
-        ensures some { OnErr result (count_of (elements value.now) ≢ 0) }
+    /// One of this, which it copies. Refused without memory, only if there are elements, or display
+    /// data.
+    pub fn of(alloc: Global, held: &Held, meta: Meta) -> Result<Update, AllocError>
+        requires { count_of held.now ≤ element_limit }
+        ensures ok { IfOk result (λ u. u ≡ record { value = held.now; meta = meta }) }
+        ensures some { OnErr result ((count_of held.now ≢ 0) ⊎ (display_of held.now ≢ None)) }
     {
-        match value.copy(alloc) {
-            Ok(value) => Ok(Update {
-                kept: Kept::Own(value, meta),
-            }),
-            Err(_) => Err(AllocError),
-        }
+        let held = held.copy(alloc)?;
+        Ok(Update {
+            kept: Kept::Own(held, meta),
+        })
     }
 
     // A copy of the update.
@@ -66,12 +67,12 @@ impl Update {
         ensures { IfOk result (λ u. u ≡ self.now) }
     {
         match &self.kept {
-            Kept::Own(value, meta) => Update::of(alloc, value, *meta),
+            Kept::Own(held, meta) => Update::of(alloc, held, *meta),
             Kept::Shared(shared) => Update::sharing(shared),
         }
     }
 
-    // One that shares this value.
+    // One that shares this.
     fn sharing(shared: &Arc<SharedUpdate>) -> Result<Update, AllocError>
         requires { count_of (arc_value shared.now).stored.value ≤ element_limit }
         ensures { IfOk result (λ u. u ≡ (arc_value shared.now).stored) }
@@ -85,7 +86,7 @@ impl Update {
     // One without elements. It does not allocate.
     pub(crate) fn empty(alloc: Global) -> Update {
         Update {
-            kept: Kept::Own(Value::Chars(Vec::new(alloc)), Meta::ZERO),
+            kept: Kept::Own(Held::of(Value::Chars(Vec::new(alloc))), Meta::ZERO),
         }
     }
 
@@ -98,7 +99,7 @@ impl Update {
         if let Kept::Own(room, meta) = &mut self.kept {
             if posted.shared().is_none() {
                 *meta = *posted.meta();
-                return copy_over(alloc, room, posted.value());
+                return room.renew(alloc, posted.held());
             }
         }
         *self = Update::of_posted(alloc, posted)?;
@@ -112,18 +113,18 @@ impl Update {
     {
         match posted.shared() {
             Some(shared) => Update::sharing(shared),
-            None => Update::of(alloc, posted.value(), *posted.meta()),
+            None => Update::of(alloc, posted.held(), *posted.meta()),
         }
     }
 
-    /// Its value.
-    pub fn value(&self) -> &Value
-        ensures value { elements result.now ≡ self.now.value }
+    /// What the record held.
+    pub fn held(&self) -> &Held
+        ensures held { result.now ≡ self.now.value }
         ensures limit { count_of self.now.value ≤ element_limit }
     {
         match &self.kept {
-            Kept::Own(value, _) => value,
-            Kept::Shared(shared) => shared.value(),
+            Kept::Own(held, _) => held,
+            Kept::Shared(shared) => shared.held(),
         }
     }
 
@@ -153,63 +154,4 @@ impl Update {
         }
         None
     }
-}
-
-// This value is the same as the other from now on. Its memory is kept if both are of one type.
-// Without memory it has no elements, or is as it was.
-#[inline(always)]
-fn copy_over(alloc: Global, room: &mut Value, value: &Value) -> Result<(), AllocError>
-    requires { count_of (elements room.old) ≤ element_limit }
-    ensures ok { OnOk result (elements room.new ≡ elements value.now) }
-    ensures few { OnErr result (count_of (elements room.new) ≤ element_limit) }
-{
-    match (value, &mut *room) {
-        (Value::Strings(from), Value::Strings(to)) => renew(to, from),
-        (Value::Ints(from), Value::Ints(to)) => renew(to, from),
-        (Value::Floats(from), Value::Floats(to)) => renew(to, from),
-        (Value::Enums(from), Value::Enums(to)) => renew(to, from),
-        (Value::Chars(from), Value::Chars(to)) => renew(to, from),
-        (Value::Longs(from), Value::Longs(to)) => renew(to, from),
-        (Value::Doubles(from), Value::Doubles(to)) => renew(to, from),
-        _ => replace(alloc, room, value),
-    }
-}
-
-// This value is the same as the other from now on, in memory of its own.
-#[inline(never)]
-fn replace(alloc: Global, room: &mut Value, value: &Value) -> Result<(), AllocError>
-    ensures ok { OnOk result (elements room.new ≡ elements value.now) }
-    ensures err { OnErr result (room.new ≡ room.old) }
-{
-    match value.copy(alloc) {
-        Ok(copy) => {
-            *room = copy;
-            Ok(())
-        }
-        Err(_) => Err(AllocError),
-    }
-}
-
-// These items in place of those that were there. Without memory there are none.
-#[inline(always)]
-fn renew<T: Copy + Drop>(items: &mut Vec<T>, from: &[T]) -> Result<(), AllocError>
-    ensures ok { OnOk result (items.new.items ≡ from.now) }
-    ensures err { OnErr result (items.new.items ≡ []) }
-{
-    // Most values have one element, as the one before had.
-    if items.len() == 1 && from.len() == 1 {
-        items[0] = from[0];
-        return Ok(());
-    }
-    renew_all(items, from)
-}
-
-// These items, however many there are, in place of those that were there.
-#[inline(never)]
-fn renew_all<T: Copy + Drop>(items: &mut Vec<T>, from: &[T]) -> Result<(), AllocError>
-    ensures ok { OnOk result (items.new.items ≡ from.now) }
-    ensures err { OnErr result (items.new.items ≡ []) }
-{
-    items.clear();
-    items.extend_from_slice(from)
 }

@@ -1,13 +1,17 @@
 -- What a server refuses of its records whatever memory there is, and what it takes.
 use Rattle.std.proofs.Common.{◌≡◌, ◌≢◌, ◌∙◌, ℕ, ◌<◌, ◌≤◌, ◌⊎◌, inl, inr, Bool, true, false, List, Option, Some, None, Result, Ok, Err, ap, arith, refl, sym, subst}
-use Rattle.std.specs.Prelude.{IsErrAnd, is_some}
+use Rattle.std.specs.Prelude.{IsErrAnd, is_some, option_map}
 use Rattle.ca_arena.specs.declared.handle.Handle.{Handle}
-use Rattle.ca_dbr.specs.Elements.{Elements, base_of, count_of}
-use Rattle.ca_dbr.specs.Held.{display_of, kind_of}
+use Rattle.ca_dbr.specs.declared.value.Value.{Value}
+use Rattle.ca_dbr.specs.Display.{DisplayData}
+use Rattle.ca_dbr.specs.Elements.{Elements, base_of, count_of, elements}
+use Rattle.ca_dbr.specs.Held.{Kind, display_of, displayed_by, kind_of}
+use Rattle.ca_dbr.proofs.Helds.{display_of-elements}
 use Rattle.ca_records.specs.Calls.{AddFault, MayAdd, PostFault, PostFits}
 use Rattle.ca_records.specs.Puts.{Record, record_named}
 use Rattle.ca_records.specs.Record.{HoldsValue, RecordState, unset}
-use Rattle.ca_records.proofs.Givens.{kind_of-alone, other-kind}
+use Rattle.ca_records.specs.Store.{display_at, display_in}
+use Rattle.ca_records.proofs.Givens.{kind_of-alone}
 use Rattle.ca_server_core.specs.Asking.{state_in}
 use Rattle.ca_text.specs.declared.refusal.Refusal.{Refusal}
 use Rattle.ca_text.specs.declared.refusal.Refusal.TheVariants.{BadCount, BadType, NameLength, OutOfMemory, RecordExists, UnknownRecord}
@@ -58,16 +62,35 @@ module _ (rs : List Record) (name : List ℕ) (e v : Elements) (n : ℕ) (s : Re
   post-faults (r, is, value, count) (inr (kind, fault)) =
       (BadCount, (r, is, kind ∙ ap (λ (x : Elements). kind_of x) value, subst (λ (k : ℕ). (count_of e ≡ 0) ⊎ (k < count_of e)) count fault))
 
-  -- neither has display data
-  module _ (none : display_of e ≡ None) (own : display_of v ≡ None) where
-    as-kinds : (base_of e ≢ base_of v) ⊎ ((base_of e ≡ base_of v) × ((count_of e ≡ 0) ⊎ (n < count_of e))) → (kind_of e ≢ kind_of v) ⊎ ((kind_of e ≡ kind_of v) × ((count_of e ≡ 0) ⊎ (n < count_of e)))
-    as-kinds (inl other) = inl (other-kind e v other)
-    as-kinds (inr (based, fault)) = inr (kind_of-alone e v none own based, fault)
+  pub post-judged : (b : Bool) → (b ≡ true → (kind_of e ≡ kind_of v) × (0 < count_of e) × (count_of e ≤ n))
+      → (b ≡ false → (kind_of e ≢ kind_of v) ⊎ ((kind_of e ≡ kind_of v) × ((count_of e ≡ 0) ⊎ (n < count_of e)))) → JudgesPost rs name e b
+  post-judged true fits faults = post-fits kept (fits refl)
+  post-judged false fits faults = post-faults kept (faults refl)
 
-    pub post-judged : (b : Bool) → (b ≡ true → (base_of e ≡ base_of v) × (0 < count_of e) × (count_of e ≤ n))
-        → (b ≡ false → (base_of e ≢ base_of v) ⊎ ((base_of e ≡ base_of v) × ((count_of e ≡ 0) ⊎ (n < count_of e)))) → JudgesPost rs name e b
-    post-judged true fits faults = (let f = fits refl in post-fits kept (kind_of-alone e v none own f.0, f.1, f.2))
-    post-judged false fits faults = post-faults kept (as-kinds (faults refl))
+-- ---- kinds of values of the program
+
+none-of : (o : Option DisplayData) → is_some o ≡ false → o ≡ None
+none-of None is = refl
+none-of (Some d) is = absurd cc
+
+pub some-mapped : {A B : Type 0} (f : A → B) (o : Option A) → is_some (option_map f o) ≡ is_some o
+some-mapped f None = refl
+some-mapped f (Some x) = refl
+
+pub other-shown : (a : Value) (h : Elements) → is_some (display_of h) ≡ true → kind_of (elements a) ≢ kind_of h
+other-shown a h shown same =
+    let none : display_of h ≡ None = ap (λ (k : Kind). k.display) (sym same) ∙ display_of-elements a in
+    let wrong : false ≡ true = ap (λ (o : Option DisplayData). is_some o) (sym none) ∙ shown in
+    cc
+
+pub own-kind : (a : Value) (h : Elements) → base_of (elements a) ≡ base_of h → is_some (display_of h) ≡ false → kind_of (elements a) ≡ kind_of h
+own-kind a h based none = kind_of-alone (elements a) h (display_of-elements a) (none-of (display_of h) none) based
+
+-- a value that a record takes is all that it holds then
+pub post-alone : (rs : List Record) (name : List ℕ) (a : Value) → PostFits rs name (elements a) → displayed_by (display_at rs name) (elements a) ≡ elements a
+post-alone rs name a fits =
+    let none : display_of fits.0.state.value ≡ None = ap (λ (k : Kind). k.display) (sym fits.2) ∙ display_of-elements a in
+    ap (λ (o : Option DisplayData). displayed_by o (elements a)) (ap display_in fits.1 ∙ none)
 
 pub post-unknown : (rs : List Record) (name : List ℕ) (e : Elements) → None ≡ state_in (record_named rs name) → (f : Refusal) × PostFault rs name e f
 post-unknown rs name e none = (UnknownRecord, unnamed (record_named rs name) none)

@@ -16,6 +16,7 @@ use crate::judging::takes_record;
 use crate::wide::count_of;
 use crate::world::World;
 use ca_dbr::{Meta, Value};
+use ca_display::Held;
 use ca_events::Addition;
 use ca_server_core::ServerCore;
 use ca_server_core::for_histories::comes_before;
@@ -89,7 +90,7 @@ fn add_at(
         name: Vec::from_slice(alloc, name)?,
         count: carried,
         slow,
-        value: value_again(alloc, value)?,
+        held: Held::of(value_again(alloc, value)?),
         meta: Meta::ZERO,
     };
     let given = value_again(alloc, value)?;

@@ -2,7 +2,6 @@
 //! first is applied.
 ghost use Rattle.std.specs.Prelude.{ℕ, ◌≡◌, ◌+◌, ◌<◌, ◌++◌, [], ◌∷◌, List, Ok, OnOk, map};
 ghost use Rattle.std.specs.Prelude.{option_map, vec_capacity, vec_len};
-ghost use Rattle.ca_dbr.specs.Elements.{elements};
 ghost use Rattle.ca_records.specs.declared.puts.Put as puts;
 ghost use Rattle.ca_server_core.specs.ForHistories.{bytes_under};
 ghost use Rattle.ca_ids.specs.Table.{under};
@@ -26,7 +25,8 @@ ghost use Rattle.ca_world_data.specs.ServerCuts.{HasRoomFor};
 use crate::next_write::{first_put, next_records, next_value};
 use crate::world::World;
 use ca_arena::Handle;
-use ca_dbr::{Meta, Value};
+use ca_dbr::Meta;
+use ca_display::Held;
 use ca_server_core::ServerCore;
 use ca_server_core::for_histories::bytes_of;
 use ca_text::Refusal;
@@ -161,14 +161,14 @@ fn tell_entries(
     put: PutPlace,
     number: usize,
     next: Option<PutPlace>,
-    value: Option<Value>,
+    value: Option<Held>,
 )
     requires { HasRoomFor 2 life logs.old.items }
     ensures logged { entries_in logs.new.items
         ≡ grown
         life
         (finish_entry (place_of put)
-        ∷ applied_of number (option_map place_of next) (option_map elements value))
+        ∷ applied_of number (option_map place_of next) value)
         (entries_in logs.old.items) }
     ensures room { (n : ℕ)
         → HasRoomFor (n + 2) life logs.old.items → HasRoomFor n life logs.new.items }
@@ -181,7 +181,7 @@ fn tell_entries(
         return;
     };
     let stored = Stored {
-        value: applied,
+        held: applied,
         meta: Meta::ZERO,
     };
     push_entry(

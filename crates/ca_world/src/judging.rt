@@ -1,7 +1,8 @@
 //! What a server refuses of a removal, a post or a new record whatever memory there is. Such an
 //! event takes none, since nothing changes.
 ghost use Rattle.std.specs.Prelude.{◌≡◌, ◌<◌, ◌≤◌, ◌≢◌, ◌⊎◌, Bool, false, is_some, true};
-ghost use Rattle.ca_dbr.specs.Elements.{base_of, count_of, elements};
+ghost use Rattle.ca_dbr.specs.Elements.{count_of, elements};
+ghost use Rattle.ca_dbr.specs.Held.{kind_of};
 ghost use Rattle.ca_records.specs.Puts.{record_named};
 ghost use Rattle.ca_records.specs.Record.{HoldsValue, unset};
 ghost use Rattle.ca_text.specs.Limits.{record_name_limit};
@@ -9,6 +10,7 @@ ghost use Rattle.ca_text.specs.Name.{IsName};
 ghost use Rattle.ca_world.specs.Judging.{JudgesAdd, JudgesPost};
 
 use ca_dbr::Value;
+use ca_display::Held;
 use ca_server_core::ServerCore;
 use ca_text::{ELEMENT_LIMIT, RecordName};
 
@@ -27,23 +29,26 @@ pub(crate) fn takes_post(core: &ServerCore, name: &[u8], value: &Value) -> bool
     ensures { JudgesPost core.now.records name.now (elements value.now) result }
 {
     match core.record(name) {
-        Some(kept) => fits_in(kept.value(), kept.count(), value),
+        Some(kept) => fits_in(kept.held(), kept.count(), value),
         None => false,
     }
 }
 
-// Whether a value may come in place of this one by a post: of its type, with one element to the
-// greatest count.
-fn fits_in(kept: &Value, count: u32, value: &Value) -> bool
+// Whether a value may come in place of this by a post: of its type, which has no display data, with
+// one element to the greatest count.
+fn fits_in(kept: &Held, count: u32, value: &Value) -> bool
     ensures fits { result ≡ true
-        → (base_of (elements value.now) ≡ base_of (elements kept.now))
+        → (kind_of (elements value.now) ≡ kind_of kept.now)
         × (0 < count_of (elements value.now)) × (count_of (elements value.now) ≤ count) }
     ensures faults { result ≡ false
-        → (base_of (elements value.now) ≢ base_of (elements kept.now))
-        ⊎ ((base_of (elements value.now) ≡ base_of (elements kept.now))
+        → (kind_of (elements value.now) ≢ kind_of kept.now)
+        ⊎ ((kind_of (elements value.now) ≡ kind_of kept.now)
         × ((count_of (elements value.now) ≡ 0) ⊎ (count < count_of (elements value.now)))) }
 {
-    if value.base_type() != kept.base_type() {
+    if value.base_type() != kept.value().base_type() {
+        return false;
+    }
+    if kept.display().is_some() {
         return false;
     }
     let present = value.count();

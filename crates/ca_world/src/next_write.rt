@@ -2,15 +2,13 @@
 //! the records once it makes its record busy.
 ghost use Rattle.std.specs.Prelude.{◌≡◌, IfOk, if◌then◌else◌, map, option_map};
 ghost use Rattle.std.specs.Str.{bytes_eq};
-ghost use Rattle.ca_dbr.specs.Elements.{elements};
 ghost use Rattle.ca_model.specs.ServerEvents as world;
 ghost use Rattle.ca_world.specs.Finishing.{HasNext, IsNext, WaitIn, WaitsIn};
 ghost use Rattle.ca_world_data.specs.Opening.{entries_in};
 ghost use Rattle.ca_world_data.specs.Seen.{entry_of, place_of, record_of};
 
-use ca_dbr::Value;
+use ca_display::Held;
 use ca_world_data::history::LogEntry;
-use ca_world_data::payloads::value_again;
 use ca_world_data::server::{PutPlace, RecordSide};
 use std::alloc::{AllocError, Global};
 
@@ -53,10 +51,10 @@ pub(crate) fn next_value(
     logs: &[Vec<LogEntry>],
     life: usize,
     waiting: &[PutPlace],
-) -> Result<Option<Value>, AllocError>
+) -> Result<Option<Held>, AllocError>
     requires { HasNext (entries_in logs.now) life (map place_of waiting.now) }
     ensures { IfOk result (λ v.
-        IsNext (entries_in logs.now) life (map place_of waiting.now) (option_map elements v)) }
+        IsNext (entries_in logs.now) life (map place_of waiting.now) v) }
 {
     let Some(put) = first_put(waiting) else {
         return Ok(None);
@@ -64,7 +62,7 @@ pub(crate) fn next_value(
     let Some(value) = value_waiting(&logs[life], put) else {
         unreachable!()
     };
-    let copy = value_again(alloc, value)?;
+    let copy = value.copy(alloc)?;
     Ok(Some(copy))
 }
 
@@ -79,11 +77,11 @@ pub(crate) fn first_put(waiting: &[PutPlace]) -> Option<PutPlace>
 }
 
 // The value with which the put of this place came to wait, or no entry tells of it.
-fn value_waiting<'a>(log: &'a [LogEntry], put: PutPlace) -> Option<&'a Value>
+fn value_waiting<'a>(log: &'a [LogEntry], put: PutPlace) -> Option<&'a Held>
     ensures { WaitsIn
         (map entry_of log.now)
         (place_of put)
-        (option_map (λ v. elements v.now) result) }
+        (option_map (λ h. h.now) result) }
 {
     for entry in log {
         if let Some(value) = value_in(entry, put) {
@@ -94,16 +92,16 @@ fn value_waiting<'a>(log: &'a [LogEntry], put: PutPlace) -> Option<&'a Value>
 }
 
 // The value with which the put of this place came to wait, if this entry tells of it.
-fn value_in<'a>(entry: &'a LogEntry, put: PutPlace) -> Option<&'a Value>
+fn value_in<'a>(entry: &'a LogEntry, put: PutPlace) -> Option<&'a Held>
     ensures { WaitIn
         (entry_of entry.now)
         (place_of put)
-        (option_map (λ v. elements v.now) result) }
+        (option_map (λ h. h.now) result) }
 {
     match entry {
         LogEntry::Waits(circuit, place, _, stored) => {
             if *circuit == put.circuit && *place == put.place {
-                Some(&stored.value)
+                Some(&stored.held)
             } else {
                 None
             }

@@ -14,6 +14,7 @@ ghost use Rattle.ca_world_data.specs.Seen.{joined_of};
 use crate::judging::takes_post;
 use crate::world::World;
 use ca_dbr::{Meta, Value};
+use ca_display::Held;
 use ca_events::Posting;
 use ca_text::Refusal;
 use ca_world_data::entries::push_entry;
@@ -97,7 +98,7 @@ fn post_at(
     match side.core.post(name, given, Meta::ZERO, mask) {
         Ok(()) => {
             let told = Stored {
-                value: value_told,
+                held: Held::of(value_told),
                 meta: Meta::ZERO,
             };
             let number = number_of(name, &side.records);

@@ -70,7 +70,7 @@ abbrev pub step_of : Step → history.Step
 step_of s = record { sent = s.sent; logged = s.logged; after = s.after }
 
 abbrev pub stored_of : Stored → speech.Stored
-stored_of s = record { value = elements s.value; meta = s.meta }
+stored_of s = record { value = s.held; meta = s.meta }
 
 abbrev pub recorded_of : Recorded → RecordState
 recorded_of r =
@@ -78,7 +78,7 @@ recorded_of r =
       name = r.name.items;
       count = r.count;
       slow = r.slow;
-      value = elements r.value;
+      value = r.held;
       meta = r.meta;
     }
 

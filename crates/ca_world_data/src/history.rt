@@ -1,6 +1,7 @@
 //! What histories consist of: messages with their intent or cause, steps of the two ends, and the
 //! entries of the logs of clients and servers.
 use ca_dbr::{Meta, Outcome, Value};
+use ca_display::Held;
 use ca_text::Refusal;
 use ca_wire::Message;
 
@@ -69,10 +70,10 @@ pub struct Step {
     pub after: usize,
 }
 
-/// A value as it was stored, with its alarm and its stamp.
+/// What a record held, as it was stored, with the alarm and the stamp of its value.
 #[derive(Debug, Drop)]
 pub struct Stored {
-    pub value: Value,
+    pub held: Held,
     pub meta: Meta,
 }
 
@@ -82,7 +83,7 @@ pub struct Recorded {
     pub name: Vec<u8>,
     pub count: u32,
     pub slow: bool,
-    pub value: Value,
+    pub held: Held,
     pub meta: Meta,
 }
 

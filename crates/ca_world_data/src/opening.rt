@@ -171,15 +171,13 @@ pub fn begin_log(alloc: Global, records: &Records) -> Result<Vec<LogEntry>, Allo
 fn record_again(alloc: Global, known: &Record) -> Result<Recorded, AllocError>
     ensures { IfOk result (λ r. recorded_of r ≡ known.now) }
 {
-    let Ok(value) = known.value().copy(alloc) else {
-        return Err(AllocError);
-    };
+    let held = known.held().copy(alloc)?;
     let name = Vec::from_slice(alloc, known.name())?;
     Ok(Recorded {
         name,
         count: known.count(),
         slow: known.is_slow(),
-        value,
+        held,
         meta: *known.meta(),
     })
 }

@@ -138,7 +138,7 @@ fn know_records(records: &Records)
     ensures apart { AreApart records.now }
 {
     for place in 0..records.len() {
-        let _ = records.at(place).value();
+        let _ = records.at(place).held();
     }
 }
 

@@ -89,7 +89,7 @@ fn recorded(servers: &[ServerSetting], server: u64, name: &[u8]) -> Option<BaseT
     }
     let line = server_at(servers, place);
     match line.records.find(name) {
-        Some(at) => Some(line.records.at(at).value().base_type()),
+        Some(at) => Some(line.records.at(at).held().value().base_type()),
         None => None,
     }
 }

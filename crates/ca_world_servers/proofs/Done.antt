@@ -6,7 +6,7 @@ use Rattle.std.specs.Str.{bytes_eq}
 use Rattle.std.proofs.lemmas.List.{append-nil, length-append, length-map}
 use Rattle.std.proofs.lemmas.Slice.Eq.{bytes_eq-Decides}
 use Rattle.ca_arena.specs.declared.handle.Handle.{Handle}
-use Rattle.ca_dbr.specs.Elements.{Elements, elements}
+use Rattle.ca_dbr.specs.Elements.{Elements}
 use Rattle.ca_records.specs.declared.puts.Put.{Put}
 use Rattle.ca_records.specs.Puts.{WaitingPut, record_named, written_meta}
 use Rattle.ca_text.specs.Command.{command_number}
@@ -84,7 +84,7 @@ pub record ComesAs (name : List ℕ) (value : Elements) (write : Option Coming) 
   pub w : Coming
   pub is : write ≡ Some w
   pub named_it : name ≡ w.name.items
-  pub valued : value ≡ elements w.value
+  pub valued : value ≡ w.held
 
 comes-as : (k : Knows) (m : Fields) (c : Serves k m.p1) (name : List ℕ) (value : Elements) (write : Option Coming) → c.channel.name ≡ name → IsComing k m c value write → ComesAs name value write
 comes-as k m c name value (Some w) named_so comes = record { w = w; is = refl; named_it = sym named_so ∙ comes.0; valued = comes.1 }
@@ -121,7 +121,7 @@ module _ (before : Server) (h : Handle) (rs : List RecordSide) (a : Ahead) (m : 
       (parts.0, parts.1, subst (λ (n : ℕ). IsParting before h n rs parts.0) (sym is.1) parts.2)
 
 -- the value is stored with no stamp
-stored-as : (before : Server) (value : Elements) (w : Coming) → before.stamp ≡ record { seconds = 0; nanos = 0 } → value ≡ elements w.value → written w ≡ stored_now before value
+stored-as : (before : Server) (value : Elements) (w : Coming) → before.stamp ≡ record { seconds = 0; nanos = 0 } → value ≡ w.held → written w ≡ stored_now before value
 stored-as before value w header_only is = λ t. record { value = sym is t; meta = written_meta (sym header_only t) }
 
 -- ---- what is told
@@ -145,7 +145,7 @@ module _ (i : ℕ) (p : PutPlace) (before : Server) (h : Handle) (y : ServerSide
   records = map record_of y.records.items
 
   -- of a write that is applied
-  write-told : (name : List ℕ) (value : Elements) (busies : Bool) (w : Coming) (y' : ServerSide) (ks' : List Joined) (logs' : List (List Entry)) → name ≡ w.name.items → value ≡ elements w.value → before.stamp ≡ record { seconds = 0; nanos = 0 }
+  write-told : (name : List ℕ) (value : Elements) (busies : Bool) (w : Coming) (y' : ServerSide) (ks' : List Joined) (logs' : List (List Entry)) → name ≡ w.name.items → value ≡ w.held → before.stamp ≡ record { seconds = 0; nanos = 0 }
       → TellsWrite i p (Some busies) (Some w) y ks logs y' ks' logs' → TellsAction i p before h (Applies name value busies) y ks logs y' ks' logs'
   write-told name value busies w y' ks' logs' names is header_only (told, numbers) =
       let stored : written w ≡ stored_now before value = stored-as before value w header_only is in
@@ -158,7 +158,7 @@ module _ (i : ℕ) (p : PutPlace) (before : Server) (h : Handle) (y : ServerSide
       }
 
   -- of a put that waits
-  wait-told : (name : List ℕ) (value : Elements) (w : Coming) (y' : ServerSide) (logs' : List (List Entry)) → name ≡ w.name.items → value ≡ elements w.value → before.stamp ≡ record { seconds = 0; nanos = 0 }
+  wait-told : (name : List ℕ) (value : Elements) (w : Coming) (y' : ServerSide) (logs' : List (List Entry)) → name ≡ w.name.items → value ≡ w.held → before.stamp ≡ record { seconds = 0; nanos = 0 }
       → TellsWait p (Some w) y logs y' logs' → TellsAction i p before h (Waits name value) y ks logs y' ks logs'
   wait-told name value w y' logs' names is header_only told =
       let stored : written w ≡ stored_now before value = stored-as before value w header_only is in

@@ -7,17 +7,18 @@ use Rattle.ca_dbr.specs.declared.data_type.BaseType.{BaseType}
 use Rattle.ca_dbr.specs.declared.data_type.DataType.{DataType}
 use Rattle.ca_dbr.specs.declared.data_type.Form.TheVariants as form
 use Rattle.ca_dbr.specs.declared.value.Meta.{Meta}
+use Rattle.ca_dbr.specs.declared.value.Value.{Value}
 use Rattle.ca_dbr.specs.Conversion.{Fails, converted}
 use Rattle.ca_dbr.specs.Elements.{Elements, base_of, elements}
-use Rattle.ca_dbr.specs.Held.{display_of}
+use Rattle.ca_dbr.specs.Held.{Kind, kind_of}
 use Rattle.ca_dbr.specs.Reading.{ReadRefused, Reads, ReadsElements}
 use Rattle.ca_dbr.specs.Types.{base_number, type_number}
-use Rattle.ca_dbr.proofs.Helds.{display_of-valued}
 use Rattle.ca_dbr.proofs.OneReading.{base_number-small, reads-one, type_number-one}
 use Rattle.ca_ids.specs.Table.{under}
 use Rattle.ca_records.specs.Puts.{Record, record_named}
 use Rattle.ca_records.specs.Record.{RecordState}
-use Rattle.ca_records.proofs.Givens.{given-alone}
+use Rattle.ca_records.specs.Given.{given_as}
+use Rattle.ca_records.proofs.Placings.{given-refused}
 use Rattle.ca_text.proofs.Places.{some_is}
 use Rattle.ca_text.specs.declared.refusal.Refusal.{Refusal}
 use Rattle.ca_text.specs.declared.refusal.Refusal.TheVariants as refusal
@@ -81,30 +82,30 @@ gives-untyped m number is over b e based reads = (let small = base_number-small 
 
 -- ---- values
 
-pub value-none : (m : Fields) (base : BaseType) → GivesElements m None → GivesValue m base None
-value-none m base none b e v based reads is = (let wrong = none b e based reads in absurd cc)
+pub value-none : (m : Fields) (k : Kind) → GivesElements m None → GivesValue m k None
+value-none m k none b e v based reads is = (let wrong = none b e based reads in absurd cc)
 
-pub value-made : (m : Fields) (base : BaseType) (g w : Elements) → GivesElements m (Some g) → converted g base ≡ Ok w → GivesValue m base (Some w)
-value-made m base g w gives made b e v based reads is =
+pub value-made : (m : Fields) (k : Kind) (g w : Elements) → GivesElements m (Some g) → given_as g k ≡ Ok w → GivesValue m k (Some w)
+value-made m k g w gives made b e v based reads is =
     let one = gives b e based reads in
     let same : g ≡ e = cc in
-    let both : converted g base ≡ Ok v = subst (λ (x : Elements). converted x base ≡ Ok v) (sym same) is in
+    let both : given_as g k ≡ Ok v = subst (λ (x : Elements). given_as x k ≡ Ok v) (sym same) is in
     let there = sym made ∙ both in
     let w_is : w ≡ v = cc in
     ap Some w_is
 
-pub value-failed : (m : Fields) (base : BaseType) (g : Elements) (r : Refusal) → GivesElements m (Some g) → converted g base ≡ Err r → GivesValue m base None
-value-failed m base g r gives fails b e v based reads is =
+value-failed : (m : Fields) (k : Kind) (g : Elements) (r : Refusal) → GivesElements m (Some g) → given_as g k ≡ Err r → GivesValue m k None
+value-failed m k g r gives fails b e v based reads is =
     let one = gives b e based reads in
     let same : g ≡ e = cc in
-    let both : converted g base ≡ Ok v = subst (λ (x : Elements). converted x base ≡ Ok v) (sym same) is in
+    let both : given_as g k ≡ Ok v = subst (λ (x : Elements). given_as x k ≡ Ok v) (sym same) is in
     let there = sym fails ∙ both in
     absurd cc
 
 -- what is refused for another reason than being out of memory gives nothing
-pub value-refused : (m : Fields) (base : BaseType) (g : Elements) (r : Refusal) → GivesElements m (Some g) → (r ≡ refusal.OutOfMemory → ⊥) → Fails (converted g base) r → GivesValue m base None
-value-refused m base g r gives other (inl fails) = value-failed m base g r gives fails
-value-refused m base g r gives other (inr short) = absurd (other short.0)
+pub value-refused : (m : Fields) (a : Value) (old : Elements) (b : BaseType) (r : Refusal) → GivesElements m (Some (elements a)) → b ≡ base_of old → (r ≡ refusal.OutOfMemory → ⊥) → Fails (converted (elements a) b) r → GivesValue m (kind_of old) None
+value-refused m a old b r gives based other (inl fails) = value-failed m (kind_of old) (elements a) r gives (given-refused a old r (subst (λ (x : BaseType). converted (elements a) x ≡ Err r) based fails))
+value-refused m a old b r gives based other (inr short) = absurd (other short.0)
 
 -- ---- writes
 
@@ -120,11 +121,10 @@ find-holds test (y ∷ ys) x e = go (test y) refl (find-holds test ys x) e
 typed-number : (n : ℕ) (b : BaseType) → base_type_of n ≡ Some b → base_number b ≡ n
 typed-number n b is = eqb-true (base_number b) n (find-holds (λ (c : BaseType). base_number c == n) base_types b is)
 
--- a write that is taken by a record without display data writes what its message gives
-taken-gives : (m : Fields) (base : BaseType) (found : Option Elements) → GivesValue m base found → (k : Knows) (c : Serves k m.p1) (v : Elements) → PutTaken k m c v → base_of c.known.state.value ≡ base → display_of c.known.state.value ≡ None → found ≡ Some v
-taken-gives m base found gives k c v taken is none =
-    let made : converted taken.elements (base_of c.known.state.value) ≡ Ok v = sym (given-alone taken.elements c.known.state.value (display_of-valued taken.elements taken.reads.reads.valued) none) ∙ taken.is in
-    gives taken.reads.base taken.elements v (typed-number m.data_type taken.reads.base taken.reads.typed) taken.reads.reads (subst (λ (b : BaseType). converted taken.elements b ≡ Ok v) is made)
+-- a write that is taken writes what its message gives
+taken-gives : (m : Fields) (kind : Kind) (found : Option Elements) → GivesValue m kind found → (k : Knows) (c : Serves k m.p1) (v : Elements) → PutTaken k m c v → kind_of c.known.state.value ≡ kind → found ≡ Some v
+taken-gives m kind found gives k c v taken is =
+    gives taken.reads.base taken.elements v (typed-number m.data_type taken.reads.base taken.reads.typed) taken.reads.reads (subst (λ (x : Kind). given_as taken.elements x ≡ Ok v) is taken.is)
 
 state-known : (o : Option Record) (k : KnownRecord) → option_map known_record o ≡ Some k → state_in o ≡ Some k.state
 state-known None k is = absurd cc
@@ -151,18 +151,15 @@ module _ (core : Server) (h : Handle) (m : Fields) where
       same-state : (e : ServerEnd) → HasEnd core h e → (c : Serves (knows core e) m.p1) → s ≡ c.known.state
       same-state e has c = some_is s c.known.state (known ∙ served-state e has c)
 
-      based : (e : ServerEnd) → HasEnd core h e → (c : Serves (knows core e) m.p1) → base_of c.known.state.value ≡ base_of s.value
-      based e has c = ap (λ (z : RecordState). base_of z.value) (sym (same-state e has c))
+      kinds : (e : ServerEnd) → HasEnd core h e → (c : Serves (knows core e) m.p1) → kind_of c.known.state.value ≡ kind_of s.value
+      kinds e has c = ap (λ (z : RecordState). kind_of z.value) (sym (same-state e has c))
 
-      alone : display_of s.value ≡ None → (e : ServerEnd) → HasEnd core h e → (c : Serves (knows core e) m.p1) → display_of c.known.state.value ≡ None
-      alone none e has c = ap (λ (z : RecordState). display_of z.value) (sym (same-state e has c)) ∙ none
+      pub none-given : GivesValue m (kind_of s.value) None → Foresees core h m None
+      none-given gives e has c v taken = (let wrong = taken-gives m (kind_of s.value) None gives (knows core e) c v taken (kinds e has c) in absurd cc)
 
-      pub none-given : display_of s.value ≡ None → GivesValue m (base_of s.value) None → Foresees core h m None
-      none-given none gives e has c v taken = (let wrong = taken-gives m (base_of s.value) None gives (knows core e) c v taken (based e has c) (alone none e has c) in absurd cc)
-
-      pub write-given : (w : Coming) → w.name.items ≡ name → w.busies ≡ busies_by m s → display_of s.value ≡ None → GivesValue m (base_of s.value) (Some (elements w.value)) → Foresees core h m (Some w)
-      write-given w is busy none gives e has c v taken = (
+      pub write-given : (w : Coming) → w.name.items ≡ name → w.busies ≡ busies_by m s → GivesValue m (kind_of s.value) (Some w.held) → Foresees core h m (Some w)
+      write-given w is busy gives e has c v taken = (
         served-name core h m name named e has c ∙ sym is,
-        sym (some_is (elements w.value) v (taken-gives m (base_of s.value) (Some (elements w.value)) gives (knows core e) c v taken (based e has c) (alone none e has c))),
+        sym (some_is w.held v (taken-gives m (kind_of s.value) (Some w.held) gives (knows core e) c v taken (kinds e has c))),
         busy ∙ ap (λ (z : RecordState). busies_by m z) (same-state e has c),
       )

@@ -2,10 +2,11 @@
 use Rattle.std.specs.Prelude.{◌≡◌, ◌==◌, ◌&&◌, Bool, Option, Some, None, Ok}
 use Rattle.ca_arena.specs.declared.handle.Handle.{Handle}
 use Rattle.ca_dbr.specs.declared.data_type.BaseType.{BaseType}
-use Rattle.ca_dbr.specs.Conversion.{converted}
-use Rattle.ca_dbr.specs.Elements.{Elements, elements}
+use Rattle.ca_dbr.specs.Elements.{Elements}
+use Rattle.ca_dbr.specs.Held.{Kind}
 use Rattle.ca_dbr.specs.Reading.{ReadsElements}
 use Rattle.ca_dbr.specs.Types.{base_number}
+use Rattle.ca_records.specs.Given.{given_as}
 use Rattle.ca_records.specs.Record.{RecordState}
 use Rattle.ca_text.specs.Command.{command_number}
 use Rattle.ca_text.specs.declared.command.Command.TheVariants as command
@@ -22,10 +23,10 @@ GivesElements m found =
     → ReadsElements b m.count m.payload e → found ≡ Some e
 
 -- and in this type this value
-abbrev pub GivesValue : Fields → BaseType → Option Elements → Type 0
-GivesValue m base found =
+abbrev pub GivesValue : Fields → Kind → Option Elements → Type 0
+GivesValue m kind found =
     (b : BaseType) (e v : Elements) → base_number b ≡ m.data_type
-    → ReadsElements b m.count m.payload e → converted e base ≡ Ok v → found ≡ Some v
+    → ReadsElements b m.count m.payload e → given_as e kind ≡ Ok v → found ≡ Some v
 
 -- whether a write of this message makes this record busy: a put with notification, of a slow one
 abbrev pub busies_by : Fields → RecordState → Bool
@@ -35,7 +36,7 @@ busies_by m r = m.command == command_number command.WriteNotify && r.slow
 abbrev pub IsComing : (k : Knows) (m : Fields) (c : Serves k m.p1) → Elements → Option Coming
     → Type 0
 IsComing k m c v (Some w) =
-    (c.channel.name ≡ w.name.items) × (v ≡ elements w.value)
+    (c.channel.name ≡ w.name.items) × (v ≡ w.held)
     × (w.busies ≡ busies_by m c.known.state)
 IsComing k m c v None = ⊥
 

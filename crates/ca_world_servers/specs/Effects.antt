@@ -142,7 +142,7 @@ pub record IsTold (records : List RecordSide) (told : List Entry) (y : ServerSid
 
 -- the value of a write as a world stores it: it has no stamp
 abbrev pub written : Coming → Stored
-written w = record { value = elements w.value; meta = unset }
+written w = record { value = w.held; meta = unset }
 
 -- the records, of which a write makes the one of this name busy, or not
 abbrev pub busy_after : (busies : Bool) → (name : List ℕ) → PutPlace → List RecordSide

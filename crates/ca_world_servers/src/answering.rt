@@ -59,5 +59,5 @@ fn count_asked(of: &Record, message: &Message) -> u32
     if count != 0 {
         return count;
     }
-    count_within(of.value(), of.count())
+    count_within(of.held().value(), of.count())
 }

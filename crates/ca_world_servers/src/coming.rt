@@ -2,21 +2,24 @@
 //! record, its value in that record's type, and whether it makes the record busy.
 ghost use Rattle.std.specs.Prelude.{◌≡◌, IfOk, option_map};
 ghost use Rattle.ca_dbr.specs.Elements.{elements};
+ghost use Rattle.ca_dbr.specs.Held.{kind_of};
 ghost use Rattle.ca_world_servers.specs.Coming.{Foresees, GivesElements, GivesValue, busies_by};
 
 use ca_arena::Handle;
 use ca_dbr::{BaseType, Value, convert_to, read_value};
+use ca_display::Held;
 use ca_records::Record;
 use ca_server_core::ServerCore;
 use ca_text::{Command, Refusal};
 use ca_wire::{Message, Sid};
 use std::alloc::{AllocError, Global};
 
-/// A write that may come: the name of its record, its value, and whether it makes the record busy.
+/// A write that may come: the name of its record, what that is to hold, and whether it makes the
+/// record busy.
 #[derive(Drop)]
 pub struct Coming {
     pub name: Vec<u8>,
-    pub value: Value,
+    pub held: Held,
     pub busies: bool,
 }
 
@@ -36,14 +39,14 @@ pub fn coming_write(
     let Some(present) = core.record(name) else {
         return Ok(None);
     };
-    let Some(given) = value_in(alloc, message, present.value().base_type())? else {
+    let Some(given) = held_in(alloc, message, present.held())? else {
         return Ok(None);
     };
     let busies = makes_busy(present, message);
     let name = Vec::from_slice(alloc, name)?;
     Ok(Some(Coming {
         name,
-        value: given,
+        held: given,
         busies,
     }))
 }
@@ -55,16 +58,20 @@ fn makes_busy(of: &Record, message: &Message) -> bool
     message.command() == Command::WriteNotify.number() && of.is_slow()
 }
 
-// The value that a put of this message writes to a record of this type. None if it is not
+// What a record that holds this is to hold after a put of this message. None if its value is not
 // read, or not converted.
-fn value_in(alloc: Global, message: &Message, base: BaseType) -> Result<Option<Value>, AllocError>
-    ensures { IfOk result (λ found. GivesValue message.now base (option_map elements found)) }
+fn held_in(alloc: Global, message: &Message, present: &Held) -> Result<Option<Held>, AllocError>
+    ensures { IfOk result (λ found.
+        GivesValue message.now (kind_of present.now) found) }
 {
     let Some(given) = elements_in(alloc, message)? else {
         return Ok(None);
     };
-    match convert_to(alloc, &given, base) {
-        Ok(value) => Ok(Some(value)),
+    match convert_to(alloc, &given, present.value().base_type()) {
+        Ok(value) => {
+            let held = present.with_value(value)?;
+            Ok(Some(held))
+        }
         Err(refusal) => match refusal {
             Refusal::OutOfMemory => Err(AllocError),
             _ => Ok(None),

@@ -109,10 +109,10 @@ pub fn tell_write(
     let Some(write) = write else {
         return;
     };
-    let Coming { name, value, .. } = write;
+    let Coming { name, held, .. } = write;
     let number = number_of(&name, &side.records);
     let stored = Stored {
-        value,
+        held,
         meta: Meta::ZERO,
     };
     push_entry(
@@ -160,10 +160,10 @@ fn tell_wait(
     let Some(write) = write else {
         return;
     };
-    let Coming { name, value, .. } = write;
+    let Coming { name, held, .. } = write;
     let number = number_of(&name, &side.records);
     let stored = Stored {
-        value,
+        held,
         meta: Meta::ZERO,
     };
     push_entry(

@@ -55,7 +55,7 @@ pub(crate) fn shown_scalar(of: &Record, rights: u32, wanted: &Wanted) -> Option<
     if !FAST || rights % 2 != 1 || wanted.count > 1 {
         return None;
     }
-    of.value().scalar(wanted.data_type)
+    of.held().value().scalar(wanted.data_type)
 }
 
 /// Answers a read by one element.

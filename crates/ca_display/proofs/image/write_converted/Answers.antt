@@ -13,8 +13,8 @@ pub returns-in-Err : goal.returns-in-Err
 returns-in-Err c =
     (refl, first-unshown (data_of c.args.display.now) (elements c.args.value.now) c.args.count (base_in c.args.image_type) c.base.result c.in-Err.refusal c.base.ensures c.in-Err.ensures.err)
 
-pub write_own-requires-clause-own : goal.write_own-requires-clause-own
-write_own-requires-clause-own c =
+pub write_own-requires : goal.write_own-requires
+write_own-requires c =
     (display_converted-is (data_of c.args.display.now) (first_elements c.args.count (elements c.args.value.now)) c.base.result (elements c.in-Ok.shown) c.in-Ok.ensures.ok).0 ∙ c.base.ensures
 
 pub returns-in-Ok : goal.returns-in-Ok
@@ -24,4 +24,4 @@ returns-in-Ok c =
     let g = elements c.in-Ok.shown in
     let b = base_in c.args.image_type in
     let made : display_converted d (first_elements c.args.count e) b ≡ Ok g = subst (λ (x : BaseType). display_converted d (first_elements c.args.count e) x ≡ Ok g) c.base.ensures c.in-Ok.ensures.ok in
-    own_written c.args.image_type c.args.count g e c.args.meta.now d c.args.out.now.items c.write_own.new.out.items c.write_own.result c.requires (shows-converted d e g c.args.count b made) c.write_own.ensures.written c.write_own.ensures.err c.write_own.ensures.stays
+    own_written c.args.image_type c.args.count g e c.args.meta.now d c.args.out.now.items c.write_own.new.out.items c.write_own.result (shows-converted d e g c.args.count b made) c.write_own.ensures.written c.write_own.ensures.err c.write_own.ensures.stays

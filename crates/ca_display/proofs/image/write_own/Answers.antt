@@ -15,11 +15,11 @@ returns-in-Err-clause-stays c = c.in-Err.ensures.shown.0
 pub returns-in-Err-clause-room : goal.returns-in-Err-clause-room
 returns-in-Err-clause-room c =
     let out = c.args.out.now in
-    let own : base_of (elements c.args.value.now) ≡ c.in-Data.data_type.base = c.requires.own ∙ ap base_in c.in-Data.is in
+    let own : base_of (elements c.args.value.now) ≡ c.in-Data.data_type.base = c.requires ∙ ap base_in c.in-Data.is in
     rw c.in-Data.is (data_lacks c.in-Data.data_type c.args.count (elements c.args.value.now) c.args.meta.now c.number.result out.items c.write_shown.new.out.items c.in-Err.field-0 (vec_len out) (vec_capacity out) c.number.ensures own c.in-Err.ensures.shown c.in-Err.ensures.room)
 
-pub write_with_display-requires-clause-own : goal.write_with_display-requires-clause-own
-write_with_display-requires-clause-own c = c.requires.own ∙ ap base_in c.in-Display.is
+pub write_with_display-requires : goal.write_with_display-requires
+write_with_display-requires c = c.requires ∙ ap base_in c.in-Display.is
 
 pub returns-in-Display-clause-written : goal.returns-in-Display-clause-written
 returns-in-Display-clause-written c = rw c.in-Display.is c.write_with_display.ensures.written

@@ -13,7 +13,7 @@ unreachable-requires c =
     let t = c.args.data_type in
     let out = c.put_front.new.out in
     let room : vec_len out + c.args.count * element_size t.base ≤ vec_capacity out = omega (arith, c.in_ok-reserve.ensures.ok, c.size_for.ensures, c.put_front.ensures.len, c.put_front.ensures.capacity) in
-    display_fits t c.args.count (elements c.args.value.now) zero_meta c.number.result out.items c.write_shown.new.out.items c.in-Err.field-0 (vec_len out) (vec_capacity out) c.number.ensures c.requires.own c.in-Err.ensures.shown c.in-Err.ensures.room room
+    display_fits t c.args.count (elements c.args.value.now) zero_meta c.number.result out.items c.write_shown.new.out.items c.in-Err.field-0 (vec_len out) (vec_capacity out) c.number.ensures c.requires c.in-Err.ensures.shown c.in-Err.ensures.room room
 
 pub returns-clause-written : goal.returns-clause-written
 returns-clause-written c =

@@ -99,7 +99,7 @@ returns-then-not-has_conversion c =
     let size : c.in-Ok.size ≡ size_of_image t c.count_of-count.result = c.in-Ok.ensures.2 ∙ ap (λ (x : DataType). size_of_image x c.count_of-count.result) one in
     let small : size_of_image t c.count_of-count.result ≤ payload_limit = (let le = c.if-size-gt-PAYLOAD_LIMIT.false in omega (arith, size, le)) in
     let few : too_many r t (subscribed_count r m) ≡ false = subst (λ (n : ℕ). too_many r t n ≡ false) count (not-many r c.args.rights m t c.count_of-count.result within small) in
-    let base = c.base_type.ensures ∙ ap base_of c.value.ensures.value in
+    let base = c.base_type.ensures ∙ c.value.ensures.base ∙ ap base_of c.held.ensures.held in
     let none : HasConversion (base_of r.value) t.base → ⊥ = λ has. not-both c.has_conversion.result (c.has_conversion.ensures.1 (subst (λ (b : BaseType). HasConversion b t.base) (sym base) has)) c.if-not-has_conversion.true in
     event-lacks r c.args.rights c.args.in_use c.args.others m t typed right whole masked free few (lacks-none r.value t.base none)
 
@@ -119,7 +119,7 @@ returns-then-others c =
     let size : c.in-Ok.size ≡ size_of_image t c.count_of-count.result = c.in-Ok.ensures.2 ∙ ap (λ (x : DataType). size_of_image x c.count_of-count.result) one in
     let small : size_of_image t c.count_of-count.result ≤ payload_limit = (let le = c.if-size-gt-PAYLOAD_LIMIT.false in omega (arith, size, le)) in
     let few : too_many r t (subscribed_count r m) ≡ false = subst (λ (n : ℕ). too_many r t n ≡ false) count (not-many r c.args.rights m t c.count_of-count.result within small) in
-    let base = c.base_type.ensures ∙ ap base_of c.value.ensures.value in
+    let base = c.base_type.ensures ∙ c.value.ensures.base ∙ ap base_of c.held.ensures.held in
     let has : HasConversion (base_of r.value) t.base = subst (λ (b : BaseType). HasConversion b t.base) base (c.has_conversion.ensures.0 c.if-not-has_conversion.false) in
     let many : not (nat_lt c.args.others 288) ≡ true = ap not (le-ltb c.args.others 288 (let le = c.if-others.true in omega (arith, le))) in
     event-last r c.args.rights c.args.in_use c.args.others m t typed right whole masked free few (lacks-not r.value t.base has) true many
@@ -140,7 +140,7 @@ returns c =
     let size : c.in-Ok.size ≡ size_of_image t c.count_of-count.result = c.in-Ok.ensures.2 ∙ ap (λ (x : DataType). size_of_image x c.count_of-count.result) one in
     let small : size_of_image t c.count_of-count.result ≤ payload_limit = (let le = c.if-size-gt-PAYLOAD_LIMIT.false in omega (arith, size, le)) in
     let few : too_many r t (subscribed_count r m) ≡ false = subst (λ (n : ℕ). too_many r t n ≡ false) count (not-many r c.args.rights m t c.count_of-count.result within small) in
-    let base = c.base_type.ensures ∙ ap base_of c.value.ensures.value in
+    let base = c.base_type.ensures ∙ c.value.ensures.base ∙ ap base_of c.held.ensures.held in
     let has : HasConversion (base_of r.value) t.base = subst (λ (b : BaseType). HasConversion b t.base) base (c.has_conversion.ensures.0 c.if-not-has_conversion.false) in
     let room : not (nat_lt c.args.others 288) ≡ false = ap not (lt-ltb c.args.others 288 (let lt = c.if-others.false in omega (arith, lt))) in
     let limit : r.count ≤ element_limit = c.count.ensures.record.value.limit in

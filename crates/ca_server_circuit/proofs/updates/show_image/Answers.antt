@@ -1,7 +1,6 @@
 use Rattle.std.proofs.Common.{◌≡◌, ℕ, List, [], ◌∷◌, Result, replicate, ap, ◌∙◌}
 use Rattle.ca_text.specs.declared.refusal.Refusal.{Refusal}
 use Rattle.ca_text.specs.Status.{get_fail, normal}
-use Rattle.ca_dbr.specs.Elements.{elements}
 use Rattle.ca_dbr.specs.Types.{size_of_image}
 use Rattle.ca_link.specs.Link.{LinkState, with_sent}
 use Rattle.ca_wire.specs.Fields.{Fields}
@@ -15,7 +14,7 @@ use Rattle.ca_server_circuit.proofs.updates.show_image.Goals as goal
 
 pub queue_made-requires-clause-sized : goal.queue_made-requires-clause-sized
 queue_made-requires-clause-sized c =
-    update-sized c.args.wanted c.args.shown.now c.in-Ok.ensures.0 c.in-Ok.ensures.1 c.count_for-count.result c.count_for-count.ensures.count (elements c.value-value.result.now) c.value-value.ensures.value c.meta.result.now c.meta.ensures c.in-Ok.size c.know.ensures.valued c.in-Ok.ensures.2
+    update-sized c.args.wanted c.args.shown.now c.in-Ok.ensures.0 c.in-Ok.ensures.1 c.count_for-count.result c.count_for-count.ensures.count c.held-held.result.now c.held-held.ensures.held c.meta.result.now c.meta.ensures c.in-Ok.size c.know.ensures c.in-Ok.ensures.2
 
 pub returns-in-Ok-queue_made-clause-ok : goal.returns-in-Ok-queue_made-clause-ok
 returns-in-Ok-queue_made-clause-ok c =
@@ -24,7 +23,7 @@ returns-in-Ok-queue_made-clause-ok c =
     let head-is : head ≡ update w.data_type c.count_for-count.result normal w.id [] = c.update_head-head.ensures ∙ ap (λ (a : Answered). update a.data_type a.count a.status.number a.id []) c.answered.ensures in
     let x = c.in-Ok-queue_made.ensures.1 in (
       with_payload x.0 head,
-      update-made w c.args.shown.now c.in-Ok.ensures.0 c.in-Ok.ensures.1 c.count_for-count.result c.count_for-count.ensures.count (elements c.value-value.result.now) c.value-value.ensures.value c.meta.result.now c.meta.ensures head head-is x.0 x.1,
+      update-made w c.args.shown.now c.in-Ok.ensures.0 c.in-Ok.ensures.1 c.count_for-count.result c.count_for-count.ensures.count c.held-held.result.now c.held-held.ensures.held c.meta.result.now c.meta.ensures head head-is x.0 x.1,
       x.2,
     )
 
@@ -42,7 +41,7 @@ returns-in-Ok-send_zeros-clause-ok c =
     let n-is = c.count_for-count.ensures.count in
     let a : Answered = c.answered-about.result in
     let head = c.update_head-head.result in
-    let made : Result (List ℕ) Refusal = shown_image w.data_type n (elements c.value-value.result.now) c.meta.result.now in
+    let made : Result (List ℕ) Refusal = shown_image w.data_type n c.held-held.result.now c.meta.result.now in
     let why = c.in-Err.refusal in
     let new = c.queue_made.new.self in
     let q = c.in-Err.ensures in
@@ -51,6 +50,6 @@ returns-in-Ok-send_zeros-clause-ok c =
     ∙ ap (λ (k : ℕ). update w.data_type n get_fail w.id (replicate k 0)) c.in-Ok.ensures.2
     ∙ ap (λ (k : ℕ). update w.data_type k get_fail w.id (replicate (size_of_image t k) 0)) n-is in (
       zeros,
-      update-failed w c.args.shown.now t c.in-Ok.ensures.1 n n-is (elements c.value-value.result.now) c.value-value.ensures.value c.meta.result.now c.meta.ensures why (why-not head made c.args.link.now new why c.in-Some.ensures.0 c.requires.open q) zeros zeros-is,
+      update-failed w c.args.shown.now t c.in-Ok.ensures.1 n n-is c.held-held.result.now c.held-held.ensures.held c.meta.result.now c.meta.ensures why (why-not head made c.args.link.now new why c.in-Some.ensures.0 c.requires.open q) zeros zeros-is,
       c.in-Ok-send_zeros.ensures.ok ∙ ap (λ (l : LinkState). with_sent (zeros ∷ []) l) (queued-not head made c.args.link.now new why q),
     )

@@ -1,6 +1,7 @@
 use Rattle.std.proofs.Common.{◌≤◌, subst, arith}
 use Rattle.ca_text.specs.Limits.{payload_limit}
-use Rattle.ca_dbr.specs.Elements.{Elements, IsValue}
+use Rattle.ca_dbr.specs.Elements.{Elements}
+use Rattle.ca_dbr.specs.Held.{IsHeldValue}
 use Rattle.ca_dbr.specs.Types.{size_of_image}
 use Rattle.ca_server_circuit.proofs.Pumps.{small-image}
 use Rattle.ca_server_circuit.proofs.Sizes.{shows-within}
@@ -14,5 +15,5 @@ overflow_add-result c =
 
 pub returns : goal.returns
 returns c =
-    shows-within c.args.wanted.now c.args.shown.now (subst (λ (e : Elements). IsValue e) c.value.ensures.value c.know.ensures.valued) c.in-Ok.ensures.0 c.count_for-count.result c.in-Ok.size
+    shows-within c.args.wanted.now c.args.shown.now (subst (λ (e : Elements). IsHeldValue e) c.held.ensures.held c.know.ensures) c.in-Ok.ensures.0 c.count_for-count.result c.in-Ok.size
     c.in-Ok.ensures.1 c.count_for-count.ensures.count c.in-Ok.ensures.2

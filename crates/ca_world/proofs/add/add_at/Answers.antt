@@ -89,7 +89,7 @@ returns-in-Ok-clause-adds c =
     ap (map record_of) c.put_in.ensures ∙ map-put record_of c.count_before-behind.result c.in_ok-begun.begun c.reserve.new.self.items
     ∙ (λ t. put_at (is_m t) (c.in_ok-begun.ensures t) (map record_of (c.reserve.ensures.items t))) in
     let logged : entries_in c.push_entry.new.logs.items ≡ grown y.life (entry.Added y.added s ∷ []) (entries_in c.args.logs.now.items) =
-    c.push_entry.ensures.logged ∙ (λ t. grown y.life (entry.Added y.added (record { name = c.in_ok-from_slice.ensures.items t; count = exact t; slow = c.args.slow; value = c.in_ok-value_again.ensures t; meta = unset }) ∷ []) (c.reserve_entries.ensures.same t)) in
+    c.push_entry.ensures.logged ∙ (λ t. grown y.life (entry.Added y.added (record { name = c.in_ok-from_slice.ensures.items t; count = exact t; slow = c.args.slow; value = (c.of.ensures ∙ c.in_ok-value_again.ensures) t; meta = unset }) ∷ []) (c.reserve_entries.ensures.same t)) in
     (core, cl.0, inl (adds-behind s y.core core n cl.0 adds cl.2 cl.3, (λ t. record (server_of y) { core = core; records = records t; added = y.added + 1 }), logged))
 
 pub returns-in-Err-clause-adds : goal.returns-in-Err-clause-adds

@@ -3,7 +3,7 @@ use Rattle.std.specs.Prelude.{Vec, is_some, option_map}
 use Rattle.std.specs.Vec.{with_items}
 use Rattle.std.specs.declared.alloc.Global.{Global}
 use Rattle.std.proofs.lemmas.List.{with_items_is}
-use Rattle.ca_dbr.specs.Elements.{Elements, elements}
+use Rattle.ca_dbr.specs.Elements.{Elements}
 use Rattle.ca_records.specs.declared.puts.Put.{Put}
 use Rattle.ca_model.specs.History as history
 use Rattle.ca_model.specs.ServerEvents.{first_of, next_busy, with_record}
@@ -24,7 +24,7 @@ use Rattle.ca_world.proofs.finish.finish_at.Goals as goal
 pub returns-then-is_none : goal.returns-then-is_none
 returns-then-is_none c =
     let has : is_some c.busy_value.result ≡ false = c.is_none.ensures ∙ ap not c.if-is_none.true in
-    let d = refuses c.args.side.now.core c.args.name.now (none-busy (λ v. elements v.now) c.busy_value.result c.args.side.now.core c.args.name.now c.busy_value.ensures has) in
+    let d = refuses c.args.side.now.core c.args.name.now (none-busy (λ v. v.now) c.busy_value.result c.args.side.now.core c.args.name.now c.busy_value.ensures has) in
     inr (d.0, d.1, refl, refl, refl)
 
 pub unreachable-requires : goal.unreachable-requires
@@ -32,7 +32,7 @@ unreachable-requires c =
     let y : ServerSide = c.args.side.now in
     let name : List ℕ = c.args.name.now in
     let has : is_some c.busy_value.result ≡ true = c.is_none.ensures ∙ ap not c.if-is_none.false in
-    let b : (z : Put) × IsBusy y.core name z = some-busy (λ v. elements v.now) c.busy_value.result y.core name c.busy_value.ensures has in
+    let b : (z : Put) × IsBusy y.core name z = some-busy (λ v. v.now) c.busy_value.result y.core name c.busy_value.ensures has in
     busy-there y c.deref.result.now name (map joined_of c.args.circuits.now.items) (entries_in c.args.logs.now.items) b.0 b.1 c.requires.may c.deref.ensures.value c.in_default.ensures
 
 pub unreachable-requires-in_default-busy : goal.unreachable-requires-in_default-busy
@@ -41,7 +41,7 @@ unreachable-requires-in_default-busy c =
     let name : List ℕ = c.args.name.now in
     let r : RecordSide = c.in-Some.found.now in
     let has : is_some c.busy_value.result ≡ true = c.is_none.ensures ∙ ap not c.if-is_none.false in
-    let b : (z : Put) × IsBusy y.core name z = some-busy (λ v. elements v.now) c.busy_value.result y.core name c.busy_value.ensures has in
+    let b : (z : Put) × IsBusy y.core name z = some-busy (λ v. v.now) c.busy_value.result y.core name c.busy_value.ensures has in
     let beside : IsBeside y.core (map record_of y.records.items) name b.1.c (record_of r) = found-beside y c.deref.result.now name r b.0 b.1 c.deref.ensures.value c.in-Some.ensures in
     busy-beside y (map joined_of c.args.circuits.now.items) (entries_in c.args.logs.now.items) name r b.0 b.1 c.requires.may beside c.in_default-busy.is
 
@@ -53,7 +53,7 @@ reserve_finish-requires c =
     let r : RecordSide = c.in-Some.found.now in
     let p : PutPlace = c.in-Some-busy.put in
     let has : is_some c.busy_value.result ≡ true = c.is_none.ensures ∙ ap not c.if-is_none.false in
-    let b : (z : Put) × IsBusy y.core name z = some-busy (λ v. elements v.now) c.busy_value.result y.core name c.busy_value.ensures has in
+    let b : (z : Put) × IsBusy y.core name z = some-busy (λ v. v.now) c.busy_value.result y.core name c.busy_value.ensures has in
     let beside : IsBeside y.core (map record_of y.records.items) name b.1.c (record_of r) = found-beside y c.deref.result.now name r b.0 b.1 c.deref.ensures.value c.in-Some.ensures in
     let within : p.circuit < length ks = on-within y.core name p.circuit ks (busy-on y ks (entries_in c.args.logs.now.items) name r p b.0 b.1 c.requires.may beside c.in-Some-busy.is) in
     omega (arith, within)
@@ -64,7 +64,7 @@ next_value-requires c =
     let name : List ℕ = c.args.name.now in
     let r : RecordSide = c.in-Some.found.now in
     let has : is_some c.busy_value.result ≡ true = c.is_none.ensures ∙ ap not c.if-is_none.false in
-    let b : (z : Put) × IsBusy y.core name z = some-busy (λ v. elements v.now) c.busy_value.result y.core name c.busy_value.ensures has in
+    let b : (z : Put) × IsBusy y.core name z = some-busy (λ v. v.now) c.busy_value.result y.core name c.busy_value.ensures has in
     let beside : IsBeside y.core (map record_of y.records.items) name b.1.c (record_of r) = found-beside y c.deref.result.now name r b.0 b.1 c.deref.ensures.value c.in-Some.ensures in
     subst (λ (z : List (Vec LogEntry Global) × List PutPlace). HasNext (entries_in z.0) y.life (map place_of z.1)) (λ t. (sym c.deref-3.ensures.value t, sym c.deref-4.ensures.value t)) (c.requires.may.told b.1.c (record_of r) beside)
 
@@ -73,7 +73,7 @@ returns-in_err-value c =
     let y : ServerSide = c.args.side.now in
     let name : List ℕ = c.args.name.now in
     let has : is_some c.busy_value.result ≡ true = c.is_none.ensures ∙ ap not c.if-is_none.false in
-    let b : (z : Put) × IsBusy y.core name z = some-busy (λ v. elements v.now) c.busy_value.result y.core name c.busy_value.ensures has in
+    let b : (z : Put) × IsBusy y.core name z = some-busy (λ v. v.now) c.busy_value.result y.core name c.busy_value.ensures has in
     finish-lacking c.args.server name y y (map joined_of c.args.circuits.now.items) (map joined_of c.args.circuits.now.items) (entries_in c.args.logs.now.items) (entries_in c.args.logs.now.items) c.from_residual.result c.from_residual.ensures.1 b refl refl refl
 
 pub returns-in_err-reserve_finish : goal.returns-in_err-reserve_finish
@@ -81,7 +81,7 @@ returns-in_err-reserve_finish c =
     let y : ServerSide = c.args.side.now in
     let name : List ℕ = c.args.name.now in
     let has : is_some c.busy_value.result ≡ true = c.is_none.ensures ∙ ap not c.if-is_none.false in
-    let b : (z : Put) × IsBusy y.core name z = some-busy (λ v. elements v.now) c.busy_value.result y.core name c.busy_value.ensures has in
+    let b : (z : Put) × IsBusy y.core name z = some-busy (λ v. v.now) c.busy_value.result y.core name c.busy_value.ensures has in
     finish-lacking c.args.server name y y (map joined_of c.args.circuits.now.items) (map joined_of c.reserve_finish.new.circuits.items) (entries_in c.args.logs.now.items) (entries_in c.reserve_finish.new.logs.items) c.from_residual-in_err-reserve_finish.result c.from_residual-in_err-reserve_finish.ensures.1 b refl c.reserve_finish.ensures.same c.reserve_finish.ensures.logged
 
 pub finish_on-requires-clause-busy : goal.finish_on-requires-clause-busy
@@ -92,7 +92,7 @@ finish_on-requires-clause-busy c =
     let r : RecordSide = c.in-Some.found.now in
     let p : PutPlace = c.in-Some-busy.put in
     let has : is_some c.busy_value.result ≡ true = c.is_none.ensures ∙ ap not c.if-is_none.false in
-    let b : (z : Put) × IsBusy y.core name z = some-busy (λ v. elements v.now) c.busy_value.result y.core name c.busy_value.ensures has in
+    let b : (z : Put) × IsBusy y.core name z = some-busy (λ v. v.now) c.busy_value.result y.core name c.busy_value.ensures has in
     let beside : IsBeside y.core (map record_of y.records.items) name b.1.c (record_of r) = found-beside y c.deref.result.now name r b.0 b.1 c.deref.ensures.value c.in-Some.ensures in
     let on : IsBusyOn y.core name p.circuit (map joined_of c.reserve_finish.new.circuits.items) =
     subst (λ (js : List model.Joined). IsBusyOn y.core name p.circuit js) (sym c.reserve_finish.ensures.same)
@@ -107,7 +107,7 @@ finish_on-requires-clause-within c =
     let r : RecordSide = c.in-Some.found.now in
     let p : PutPlace = c.in-Some-busy.put in
     let has : is_some c.busy_value.result ≡ true = c.is_none.ensures ∙ ap not c.if-is_none.false in
-    let b : (z : Put) × IsBusy y.core name z = some-busy (λ v. elements v.now) c.busy_value.result y.core name c.busy_value.ensures has in
+    let b : (z : Put) × IsBusy y.core name z = some-busy (λ v. v.now) c.busy_value.result y.core name c.busy_value.ensures has in
     let beside : IsBeside y.core (map record_of y.records.items) name b.1.c (record_of r) = found-beside y c.deref.result.now name r b.0 b.1 c.deref.ensures.value c.in-Some.ensures in
     let on : IsBusyOn y.core name p.circuit (map joined_of c.reserve_finish.new.circuits.items) =
     subst (λ (js : List model.Joined). IsBusyOn y.core name p.circuit js) (sym c.reserve_finish.ensures.same)
@@ -157,9 +157,9 @@ returns c =
     let r : RecordSide = c.in-Some.found.now in
     let p : PutPlace = c.in-Some-busy.put in
     let next : Option model.PutPlace = option_map place_of c.first_put-next.result in
-    let value : Option Elements = option_map elements c.in_ok-value.value in
+    let value : Option Elements = c.in_ok-value.value in
     let has : is_some c.busy_value.result ≡ true = c.is_none.ensures ∙ ap not c.if-is_none.false in
-    let b : (z : Put) × IsBusy y.core name z = some-busy (λ v. elements v.now) c.busy_value.result y.core name c.busy_value.ensures has in
+    let b : (z : Put) × IsBusy y.core name z = some-busy (λ v. v.now) c.busy_value.result y.core name c.busy_value.ensures has in
     let beside : IsBeside y.core (map record_of y.records.items) name b.1.c (record_of r) = found-beside y c.deref.result.now name r b.0 b.1 c.deref.ensures.value c.in-Some.ensures in
     let busy : option_map place_of r.busy ≡ Some (place_of p) = ap (option_map place_of) c.in-Some-busy.is in
     let next_is : next ≡ first_of (map place_of r.waiting.items) = c.first_put-next.ensures ∙ ap (λ (ps : List PutPlace). first_of (map place_of ps)) c.deref-2.ensures.value in

@@ -1,6 +1,5 @@
 use Rattle.std.proofs.Common.{ℕ, ◌<◌, List, length, map, arith}
 use Rattle.std.proofs.lemmas.List.{length-map}
-use Rattle.ca_dbr.specs.Elements.{elements}
 use Rattle.ca_text.specs.Place.{At}
 use Rattle.ca_text.proofs.Places.{At-map, At-within}
 use Rattle.ca_world_data.specs.declared.history.LogEntry.{LogEntry}
@@ -15,7 +14,7 @@ returns-in-Some c =
     let i : ℕ = c.loop-entry.entry-index in
     let within : i < length es = omega (arith, c.loop-entry-test.true) in
     let at : At es i c.entry-item.result = found es i c.entry-item.result c.entry-item.result within c.entry-item.is in
-    (entry_of c.entry-item.result, (i, At-map entry_of es i c.entry-item.result at), wait-found (λ v. elements v.now) (entry_of c.entry-item.result) (place_of c.args.put) c.value_in.result c.in-Some.value c.in-Some.is c.value_in.ensures)
+    (entry_of c.entry-item.result, (i, At-map entry_of es i c.entry-item.result at), wait-found (λ h. h.now) (entry_of c.entry-item.result) (place_of c.args.put) c.value_in.result c.in-Some.value c.in-Some.is c.value_in.ensures)
 
 pub loop-entry-preserved : goal.loop-entry-preserved
 loop-entry-preserved c =
@@ -25,7 +24,7 @@ loop-entry-preserved c =
     let at : At es i c.entry-item.result = found es i c.entry-item.result c.entry-item.result within c.entry-item.is in
     record {
       before = none-told (map entry_of es) (place_of c.args.put) i (entry_of c.entry-item.result) c.loop-entry.invariant.before (At-map entry_of es i c.entry-item.result at)
-          (wait-none (λ v. elements v.now) (entry_of c.entry-item.result) (place_of c.args.put) c.value_in.result c.in_default.is c.value_in.ensures);
+          (wait-none (λ h. h.now) (entry_of c.entry-item.result) (place_of c.args.put) c.value_in.result c.in_default.is c.value_in.ensures);
     }
 
 pub returns : goal.returns

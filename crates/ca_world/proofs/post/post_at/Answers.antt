@@ -1,4 +1,4 @@
-use Rattle.std.proofs.Common.{◌≡◌, ◌+◌, ℕ, [], ◌∷◌, List, Ok, ap, refl, subst, sym, arith, ◌∙◌}
+use Rattle.std.proofs.Common.{◌≡◌, ◌+◌, ℕ, [], ◌∷◌, List, Ok, Err, ap, refl, subst, sym, arith, ◌∙◌}
 use Rattle.std.specs.Prelude.{map}
 use Rattle.std.specs.Vec.{with_items}
 use Rattle.std.proofs.lemmas.List.{with_items_is}
@@ -6,6 +6,7 @@ use Rattle.ca_dbr.specs.Elements.{Elements, elements}
 use Rattle.ca_model.specs.History as history
 use Rattle.ca_model.specs.History.{Entry}
 use Rattle.ca_model.specs.ServerEvents.{number_of, numbers_posted, posted_entry}
+use Rattle.ca_model.specs.ServerCalls.{Posts}
 use Rattle.ca_model.specs.Speech.{Stored}
 use Rattle.ca_model.specs.World as model
 use Rattle.ca_model.specs.World.{grown}
@@ -20,7 +21,7 @@ use Rattle.ca_world_data.specs.Posting.{PostsAt, TellsPost}
 use Rattle.ca_world_data.specs.Reporting.{AreServed, Reports, waits}
 use Rattle.ca_world_data.specs.Seen.{joined_of, record_of, server_of}
 use Rattle.ca_world_data.specs.ServerCuts.{HasRoomFor}
-use Rattle.ca_world.proofs.Judgements.{post-lacks, post-refused, post-taken}
+use Rattle.ca_world.proofs.Judgements.{post-alone, post-lacks, post-refused, post-taken}
 use Rattle.ca_world.proofs.Postings.{alike-posted, post-kept, post-told, served-posted}
 use Rattle.ca_world.proofs.post.post_at.Goals as goal
 
@@ -67,8 +68,10 @@ push_entry-requires c =
 pub post_numbers-requires-clause-alike : goal.post_numbers-requires-clause-alike
 post_numbers-requires-clause-alike c =
     let v : Stored = record { value = elements c.in_ok-given.given; meta = unset } in
+    let fits : PostFits c.args.side.now.core.records c.args.name.now (elements c.in_ok-given.given) = subst (λ (e : Elements). PostFits c.args.side.now.core.records c.args.name.now e) (sym c.in_ok-given.ensures) (post-taken c.args.side.now.core.records c.args.name.now (elements c.args.value.now) c.takes_post.result c.takes_post.ensures c.if-not-takes_post.false) in
+    let posts : Posts c.args.side.now.core c.args.name.now v c.args.mask c.in-Ok.ensures.0 (Ok tt) c.post.new.self = subst (λ (e : Elements). Posts c.args.side.now.core c.args.name.now (record { value = e; meta = unset }) c.args.mask c.in-Ok.ensures.0 (Ok tt) c.post.new.self) (post-alone c.args.side.now.core.records c.args.name.now c.in_ok-given.given fits) c.in-Ok.ensures.1 in
     subst (λ (ks : List Joined). AllAlike c.args.server c.post.new.self (map joined_of ks)) (sym c.deref_mut.ensures.value)
-    (alike-posted c.args.name.now c.args.mask v c.in-Ok.ensures.0 c.args.side.now.core c.post.new.self c.in-Ok.ensures.1 c.args.server (map joined_of c.args.circuits.now.items) c.requires.alike)
+    (alike-posted c.args.name.now c.args.mask v c.in-Ok.ensures.0 c.args.side.now.core c.post.new.self posts c.args.server (map joined_of c.args.circuits.now.items) c.requires.alike)
 
 pub post_numbers-requires-clause-counts : goal.post_numbers-requires-clause-counts
 post_numbers-requires-clause-counts c = subst AllMayCount (sym c.deref_mut.ensures.value) (subst AllMayCount c.deref.ensures.value c.in_ok-check_counts.ensures)
@@ -93,7 +96,9 @@ returns-in-Ok c =
     let y : ServerSide = c.args.side.now in
     let z : ServerSide = record y { core = c.post.new.self } in
     let v : Stored = record { value = elements c.in_ok-given.given; meta = unset } in
-    let told : Stored = record { value = elements c.in_ok-value_told.value_told; meta = unset } in
+    let fits : PostFits c.args.side.now.core.records c.args.name.now (elements c.in_ok-given.given) = subst (λ (e : Elements). PostFits c.args.side.now.core.records c.args.name.now e) (sym c.in_ok-given.ensures) (post-taken c.args.side.now.core.records c.args.name.now (elements c.args.value.now) c.takes_post.result c.takes_post.ensures c.if-not-takes_post.false) in
+    let posts : Posts c.args.side.now.core c.args.name.now v c.args.mask c.in-Ok.ensures.0 (Ok tt) c.post.new.self = subst (λ (e : Elements). Posts c.args.side.now.core c.args.name.now (record { value = e; meta = unset }) c.args.mask c.in-Ok.ensures.0 (Ok tt) c.post.new.self) (post-alone c.args.side.now.core.records c.args.name.now c.in_ok-given.given fits) c.in-Ok.ensures.1 in
+    let told : Stored = record { value = c.of.result; meta = unset } in
     let ks : List model.Joined = map joined_of c.args.circuits.now.items in
     let ks' : List model.Joined = map joined_of c.report_ends.new.circuits.items in
     let logs : List (List Entry) = entries_in c.args.logs.now.items in
@@ -111,8 +116,8 @@ returns-in-Ok c =
     subst (λ (e : Elements). PostsAt c.args.server c.args.name.now (record { value = e; meta = unset }) c.args.mask y ks logs (Ok tt) c.report_ends.new.side ks' logs') c.in_ok-given.ensures
     (post-told c.args.server c.args.name.now v told c.args.mask y c.report_ends.new.side c.post.new.self c.in-Ok.ensures.0
     ks ks' logs mid logs'
-    c.in-Ok.ensures.1
-    (ap (λ (e : Elements). let s : Stored = record { value = e; meta = unset } in s) (c.in_ok-value_told.ensures ∙ sym c.in_ok-given.ensures))
+    posts
+    (ap (λ (e : Elements). let s : Stored = record { value = e; meta = unset } in s) (c.of.ensures ∙ c.in_ok-value_told.ensures ∙ sym c.in_ok-given.ensures))
     c.reserve_reports.ensures.same
     tells)
 
@@ -120,8 +125,10 @@ pub returns-in-Err : goal.returns-in-Err
 returns-in-Err c =
     let y : ServerSide = c.args.side.now in
     let v : Stored = record { value = elements c.in_ok-given.given; meta = unset } in
+    let fits : PostFits c.args.side.now.core.records c.args.name.now (elements c.in_ok-given.given) = subst (λ (e : Elements). PostFits c.args.side.now.core.records c.args.name.now e) (sym c.in_ok-given.ensures) (post-taken c.args.side.now.core.records c.args.name.now (elements c.args.value.now) c.takes_post.result c.takes_post.ensures c.if-not-takes_post.false) in
+    let posts : Posts c.args.side.now.core c.args.name.now v c.args.mask c.in-Err.ensures.0 (Err c.in-Err.field-0) c.post.new.self = subst (λ (e : Elements). Posts c.args.side.now.core c.args.name.now (record { value = e; meta = unset }) c.args.mask c.in-Err.ensures.0 (Err c.in-Err.field-0) c.post.new.self) (post-alone c.args.side.now.core.records c.args.name.now c.in_ok-given.given fits) c.in-Err.ensures.1 in
     let ks : List model.Joined = map joined_of c.args.circuits.now.items in
     let logs : List (List Entry) = entries_in c.args.logs.now.items in
     let mid : List (List Entry) = entries_in c.reserve_reports.new.logs.items in
     subst (λ (e : Elements). PostsAt c.args.server c.args.name.now (record { value = e; meta = unset }) c.args.mask y ks logs (Ok tt) (record y { core = c.post.new.self }) ks mid) c.in_ok-given.ensures
-    (post-kept c.args.server c.args.name.now v c.args.mask y c.post.new.self c.in-Err.ensures.0 ks logs mid c.in-Err.field-0 c.in-Err.ensures.1 c.reserve_reports.ensures.same)
+    (post-kept c.args.server c.args.name.now v c.args.mask y c.post.new.self c.in-Err.ensures.0 ks logs mid c.in-Err.field-0 posts c.reserve_reports.ensures.same)

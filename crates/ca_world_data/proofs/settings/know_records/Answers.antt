@@ -11,7 +11,7 @@ loop-place-preserved c = λ j r within at. elim (cases_lt j c.loop-place.place) 
   | inr after ↦
       let here : j ≡ c.loop-place.place = omega (arith, within, after) in
       let same : c.at.result.now ≡ r = At-one c.args.records.now c.loop-place.place c.at.result.now r c.at.ensures.at (subst (λ (k : ℕ). At c.args.records.now k r) here at) in
-      subst (λ (x : RecordState). IsRecord x) same c.value.ensures.record
+      subst (λ (x : RecordState). IsRecord x) same c.held.ensures.record
 ]
 
 pub returns-clause-each : goal.returns-clause-each

@@ -1,9 +1,6 @@
-use Rattle.std.proofs.Common.{◌≡◌, ℕ, Option, Some, None, ap, subst, sym, ◌∙◌}
-use Rattle.std.specs.Prelude.{option_map}
-use Rattle.ca_dbr.specs.declared.value.Value.{Value}
-use Rattle.ca_dbr.specs.Elements.{base_of, elements}
-use Rattle.ca_dbr.specs.Held.{display_of}
-use Rattle.ca_dbr.proofs.Helds.{display_of-elements}
+use Rattle.std.proofs.Common.{◌≡◌, ℕ, Option, Some, None, subst, ◌∙◌}
+use Rattle.ca_dbr.specs.Elements.{Elements}
+use Rattle.ca_dbr.specs.Held.{kind_of}
 use Rattle.ca_ids.specs.Table.{under}
 use Rattle.ca_records.specs.Record.{RecordState}
 use Rattle.ca_server_core.specs.Asking.{NamesUnder}
@@ -31,11 +28,10 @@ returns-in_default-2 c =
     let named : NamesUnder (under c.args.core.now.circuits c.args.circuit) c.args.message.now.p1 (Some c.in-Some.name.now) =
     subst (λ (n : ℕ). NamesUnder (under c.args.core.now.circuits c.args.circuit) n (Some c.in-Some.name.now)) is c.in-Some.ensures in
     let s : RecordState = c.in-Some-record.present.now in
-    let given : GivesValue c.args.message.now c.base_type.result None =
-    subst (λ (o : Option Value). GivesValue c.args.message.now c.base_type.result (option_map elements o)) c.in_default-2.is c.in_ok-given.ensures in
-    let gives : GivesValue c.args.message.now (base_of s.value) None = subst (λ b. GivesValue c.args.message.now b None) (c.base_type.ensures ∙ ap base_of c.value.ensures.value) given in
-    let alone : display_of s.value ≡ None = ap display_of (sym c.value.ensures.value) ∙ display_of-elements c.value.result.now in
-    none-given c.args.core.now c.args.circuit c.args.message.now c.in-Some.name.now named s c.in-Some-record.ensures alone gives
+    let given : GivesValue c.args.message.now (kind_of c.held.result.now) None =
+    subst (λ (o : Option Elements). GivesValue c.args.message.now (kind_of c.held.result.now) o) c.in_default-2.is c.in_ok-given.ensures in
+    let gives : GivesValue c.args.message.now (kind_of s.value) None = subst (λ (h : Elements). GivesValue c.args.message.now (kind_of h) None) c.held.ensures.held given in
+    none-given c.args.core.now c.args.circuit c.args.message.now c.in-Some.name.now named s c.in-Some-record.ensures gives
 
 pub returns : goal.returns
 returns c =
@@ -43,9 +39,8 @@ returns c =
     let named : NamesUnder (under c.args.core.now.circuits c.args.circuit) c.args.message.now.p1 (Some c.in-Some.name.now) =
     subst (λ (n : ℕ). NamesUnder (under c.args.core.now.circuits c.args.circuit) n (Some c.in-Some.name.now)) is c.in-Some.ensures in
     let s : RecordState = c.in-Some-record.present.now in
-    let given : GivesValue c.args.message.now c.base_type.result (Some (elements c.in-Some-2.given)) =
-    subst (λ (o : Option Value). GivesValue c.args.message.now c.base_type.result (option_map elements o)) c.in-Some-2.is c.in_ok-given.ensures in
-    let gives : GivesValue c.args.message.now (base_of s.value) (Some (elements c.in-Some-2.given)) = subst (λ b. GivesValue c.args.message.now b (Some (elements c.in-Some-2.given))) (c.base_type.ensures ∙ ap base_of c.value.ensures.value) given in
-    let alone : display_of s.value ≡ None = ap display_of (sym c.value.ensures.value) ∙ display_of-elements c.value.result.now in
+    let given : GivesValue c.args.message.now (kind_of c.held.result.now) (Some c.in-Some-2.given) =
+    subst (λ (o : Option Elements). GivesValue c.args.message.now (kind_of c.held.result.now) o) c.in-Some-2.is c.in_ok-given.ensures in
+    let gives : GivesValue c.args.message.now (kind_of s.value) (Some c.in-Some-2.given) = subst (λ (h : Elements). GivesValue c.args.message.now (kind_of h) (Some c.in-Some-2.given)) c.held.ensures.held given in
     write-given c.args.core.now c.args.circuit c.args.message.now c.in-Some.name.now named s c.in-Some-record.ensures
-    (record { name = c.in_ok-name.name; value = c.in-Some-2.given; busies = c.makes_busy-busies.result }) c.in_ok-name.ensures.items c.makes_busy-busies.ensures alone gives
+    (record { name = c.in_ok-name.name; held = c.in-Some-2.given; busies = c.makes_busy-busies.result }) c.in_ok-name.ensures.items c.makes_busy-busies.ensures gives

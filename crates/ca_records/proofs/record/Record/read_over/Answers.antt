@@ -1,13 +1,21 @@
-use Rattle.std.proofs.Common.{Bool, true, refl, subst}
-use Rattle.ca_dbr.specs.Elements.{elements}
-use Rattle.ca_dbr.specs.Reading.{ReadsOver}
-use Rattle.ca_dbr.proofs.Helds.{display_of-elements}
-use Rattle.ca_records.proofs.Overs.{takes-over}
+use Rattle.std.proofs.Common.{Bool, false, true, rules, subst}
+use Rattle.ca_dbr.specs.Reading.{IsMeta}
+use Rattle.ca_display.specs.Holding.{HoldsOver}
+use Rattle.ca_records.proofs.Placings.{over-not, over-record, takes-over}
 use Rattle.ca_records.proofs.record.Record.read_over.Goals as goal
+
+pub invariant_of-self : goal.invariant_of-self
+invariant_of-self c =
+    let over : HoldsOver c.args.number c.args.bytes.now c.self.inside.held false c.read_over.new.self = subst (λ (b : Bool). HoldsOver c.args.number c.args.bytes.now c.self.inside.held b c.read_over.new.self) c.if-not-read_over.true c.read_over.ensures in
+    over-not _ c.self.invariant c.args.number c.args.bytes.now c.read_over.new.self over
+
+pub invariant_of-self-2 : goal.invariant_of-self-2
+invariant_of-self-2 c =
+    let fits : IsMeta c.args.meta = record { status = search rules; severity = search rules; seconds = search rules; nanos = search rules } in
+    let over : HoldsOver c.args.number c.args.bytes.now c.self.inside.held true c.read_over.new.self = subst (λ (b : Bool). HoldsOver c.args.number c.args.bytes.now c.self.inside.held b c.read_over.new.self) c.if-not-read_over.false c.read_over.ensures in
+    over-record _ c.self.invariant c.args.number c.args.bytes.now c.read_over.new.self c.args.meta over fits
 
 pub returns : goal.returns
 returns c =
-    let old = elements c.self.inside.value in
-    let new = elements c.read_over.new.self in
-    let over : ReadsOver c.args.number c.args.bytes.now old true new = subst (λ (b : Bool). ReadsOver c.args.number c.args.bytes.now old b new) c.if-not-read_over.false c.read_over.ensures in
-    rw (← c.self.view_is) (takes-over c.args.number c.args.bytes.now c.args.meta _ _ new c.self.invariant (display_of-elements c.self.inside.value) over refl)
+    let over : HoldsOver c.args.number c.args.bytes.now c.self.inside.held true c.read_over.new.self = subst (λ (b : Bool). HoldsOver c.args.number c.args.bytes.now c.self.inside.held b c.read_over.new.self) c.if-not-read_over.false c.read_over.ensures in
+    rw (← c.self.view_is) (takes-over _ c.self.invariant c.args.number c.args.bytes.now c.read_over.new.self c.args.meta over)
