@@ -2,7 +2,6 @@
 //! and posts.
 use ca_arena::Handle;
 use ca_dbr::{Meta, Value};
-use ca_display::Held;
 use ca_records::{Put, ServedRecords};
 use ca_text::Refusal;
 use std::alloc::{AllocError, Global};
@@ -60,12 +59,7 @@ fn put(served: &mut ServedRecords, name: &[u8], value: Value) -> Result<(), Refu
 fn served(alloc: Global, count: u32) -> Result<ServedRecords, Refusal> {
     let mut served = ServedRecords::new(alloc, Vec::new(alloc));
     for i in 0..count {
-        served.add(
-            name_of(alloc, i)?.as_bytes(),
-            1,
-            true,
-            Held::of(long(alloc)?),
-        )?;
+        served.add(name_of(alloc, i)?.as_bytes(), 1, true, long(alloc)?)?;
     }
     Ok(served)
 }

@@ -14,7 +14,7 @@ use Rattle.ca_requests.specs.Requests as request
 use Rattle.ca_model.specs.Answers.{Sending}
 use Rattle.ca_model.specs.Client.{Client, out_bytes, standing_at}
 use Rattle.ca_model.specs.ClientCalls.{ClientReads, IsLive, LiveChannel, Shape, ask_fault, is_over, read_fault, read_sent}
-use Rattle.ca_model.specs.Faults.{type_of}
+use Rattle.ca_model.specs.Images.{type_of}
 use Rattle.ca_client_core.specs.Asks.{Asks, IssuesOr, with_request}
 use Rattle.ca_client_tables.specs.Ends.{cut_back, with_message}
 use Rattle.ca_client_tables.proofs.Queued.{cut-messages}

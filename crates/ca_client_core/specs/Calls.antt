@@ -11,7 +11,7 @@ use Rattle.ca_model.specs.Client as phase
 use Rattle.ca_records.specs.Rules.{may_read}
 use Rattle.ca_model.specs.ClientCalls.{LiveChannel, Shape, event_cancel_sent, first_refusal}
 use Rattle.ca_model.specs.ClientCalls.{is_over}
-use Rattle.ca_model.specs.Faults.{type_of}
+use Rattle.ca_model.specs.Images.{type_of}
 
 -- A subscription is cancelled on this circuit, under this SID: its EVENT_CANCEL goes
 -- out, and its id drains.

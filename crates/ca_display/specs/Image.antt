@@ -1,6 +1,6 @@
 -- Images with display data: the structs dbr_gr_short to dbr_ctrl_double of the protocol
 -- specification.
-use Rattle.std.specs.Prelude.{ℕ, ◌≡◌, ◌++◌, ◌-◌, ◌*◌, ◌+◌, ◌≤◌, ◌<◌, ◌⊎◌, List, [], length, take}
+use Rattle.std.specs.Prelude.{ℕ, ◌≡◌, ◌++◌, ◌-◌, ◌*◌, ◌+◌, ◌<◌, ◌⊎◌, List, [], length, take}
 use Rattle.std.specs.Prelude.{replicate, Result, Ok, Err}
 use Rattle.std.specs.List.{flat_map}
 use Rattle.ca_text.specs.declared.refusal.Refusal.{Refusal}

@@ -5,12 +5,10 @@ use Rattle.std.specs.Prelude.{Err, Ok, Result, drop, is_some, map, option_map, r
 use Rattle.std.specs.Str.{bytes_eq}
 use Rattle.std.proofs.lemmas.List.{length-replicate}
 use Rattle.ca_arena.specs.declared.handle.Handle.{Handle}
-use Rattle.ca_dbr.specs.declared.data_type.DataType.{DataType}
 use Rattle.ca_dbr.specs.Elements.{Elements, count_of}
 use Rattle.ca_dbr.specs.Held.{IsHeldValue}
-use Rattle.ca_dbr.specs.Image.{image}
-use Rattle.ca_dbr.specs.Shown.{shown}
-use Rattle.ca_dbr.specs.Types.{size_of_image}
+use Rattle.ca_display.specs.declared.image_type.ImageType.{ImageType}
+use Rattle.ca_display.specs.Image.{size_in}
 use Rattle.ca_ids.specs.Table.{Table, held, under}
 use Rattle.ca_link.specs.Link.{with_rest}
 use Rattle.ca_queue.specs.declared.entry.SubKey.{SubKey}
@@ -35,6 +33,7 @@ use Rattle.ca_model.specs.Due.{Action, Applies, KnownChannel, KnownRecord}
 use Rattle.ca_model.specs.Due as action
 use Rattle.ca_model.specs.Ends.{Why}
 use Rattle.ca_model.specs.Ends as why
+use Rattle.ca_model.specs.Images.{image_of, shown_in}
 use Rattle.ca_model.specs.Server.{Ended, Open, OpenChannel, Server, ServerCircuit, ServerEnd, new_end, new_server, with_post}
 use Rattle.ca_model.specs.ServerCalls.{AddsRecord, Finishes, Posts, Removes, Replies, after_next, channels_of, circuit_without, disconnects, end_without, finish_reply, lacking, with_finish}
 use Rattle.ca_model.specs.ServerSteps.{Accepts, Cuts, Gives, HasEnd, LeftOf, Next, Pumps, Reaches, Sends, Update, after_post, closed, counted, ended, known_channel, known_record, knows, reached, stored_now, with_end, write_mask}
@@ -42,12 +41,13 @@ use Rattle.ca_model.specs.ServerSteps as steps
 use Rattle.ca_model.specs.Speech.{Is, Stored}
 use Rattle.ca_model.specs.Updates.{ShowsTo, update_count, update_in}
 use Rattle.ca_model.specs.ServerEvents.{disconnected_at, left_by, reported}
+use Rattle.ca_model.proofs.Showing.{size_in-small}
 use Rattle.ca_model.proofs.Tables.{all-freed-back, changed-back, find-at, freed-back, held-back, held-under}
 use Rattle.ca_laws_parts.proofs.ClientsKeep.{none-under}
 use Rattle.ca_laws_parts.proofs.Cores.{records-stay}
 use Rattle.ca_laws_parts.specs.ServerFits.{AllAt, EndFits, PutFits, QueueFits, RecordFits, ServerFits, ValueFits, WantedFits}
 use Rattle.ca_laws_parts.specs.Streams.{AreMessages}
-use Rattle.ca_laws_parts.proofs.DueFits.{ActionFits, KnowsFits, blank-some, due-fits, shown-payload, shown-some, small-image, some-of}
+use Rattle.ca_laws_parts.proofs.DueFits.{ActionFits, KnowsFits, blank-some, due-fits, shown-payload, shown-some, some-of}
 use Rattle.ca_laws_parts.proofs.Fits.{empty-payload}
 use Rattle.ca_laws_parts.proofs.ServerEnds.{open-one}
 use Rattle.ca_laws_parts.proofs.ServerFits.{acts-fits, append-at, cons-at, changed-fits, drop-at, each-changed, end-like, filter-at, finished-fits, new-end-fits, new-fits, post-fits, records-fits, removal-fits, set-at, take-at, taken-fits, value-fits, withdrawn-fits}
@@ -192,19 +192,19 @@ left-fits y h e has f n (Some gone) new (writes, reaches) = (let r = next-fits y
 
 -- ---- updates
 
-shown-good : (w : Wanted) (v : Stored) (t : DataType) (n : ℕ) (r : Result Elements Refusal) → WantedFits w → ValueFits v.value → n ≤ element_limit → update_count w v ≡ n → shown v.value n t.base ≡ r → IsMessage (update_in w v t r)
+shown-good : (w : Wanted) (v : Stored) (t : ImageType) (n : ℕ) (r : Result Elements Refusal) → WantedFits w → ValueFits v.value → n ≤ element_limit → update_count w v ≡ n → shown_in v.value n t ≡ r → IsMessage (update_in w v t r)
 shown-good w v t n (Ok e) fit one few same is =
     let p = shown-payload v.value t n e v.meta one.0 few is in
     let count : update_count w v < 2 ^ 32 = omega (arith, same, few) in
-    message-of (update w.data_type (update_count w v) normal w.id (image t e v.meta)) (omega arith) fit.0 count (omega arith) fit.2 (padded-payload (image t e v.meta) p.1)
+    message-of (update w.data_type (update_count w v) normal w.id (image_of v.value t e v.meta)) (omega arith) fit.0 count (omega arith) fit.2 (padded-payload (image_of v.value t e v.meta) p.1)
 shown-good w v t n (Err r) fit one few same is =
     let count : update_count w v < 2 ^ 32 = omega (arith, same, few) in
-    let small : size_of_image t (update_count w v) ≤ payload_limit = subst (λ (k : ℕ). size_of_image t k ≤ payload_limit) (sym same) (small-image t n few) in
-    message-of (update w.data_type (update_count w v) get_fail w.id (replicate (size_of_image t (update_count w v)) 0)) (omega arith) fit.0 count (omega arith) fit.2
-    (padded-payload (replicate (size_of_image t (update_count w v)) 0) (subst (λ (k : ℕ). k ≤ payload_limit) (sym (length-replicate (size_of_image t (update_count w v)) 0)) small))
+    let small : size_in t (update_count w v) ≤ payload_limit = subst (λ (k : ℕ). size_in t k ≤ payload_limit) (sym same) (size_in-small t n few) in
+    message-of (update w.data_type (update_count w v) get_fail w.id (replicate (size_in t (update_count w v)) 0)) (omega arith) fit.0 count (omega arith) fit.2
+    (padded-payload (replicate (size_in t (update_count w v)) 0) (subst (λ (k : ℕ). k ≤ payload_limit) (sym (length-replicate (size_in t (update_count w v)) 0)) small))
 
 update-good : (w : Wanted) (v : Stored) (m : Fields) → WantedFits w → ValueFits v.value → ShowsTo w v m → IsMessage m
-update-good w v m fit one (t, typed, is) = subst IsMessage (sym is) (shown-good w v t (update_count w v) (shown v.value (update_count w v) t.base) fit one (few (w.count == 0)) refl refl)
+update-good w v m fit one (t, typed, is) = subst IsMessage (sym is) (shown-good w v t (update_count w v) (shown_in v.value (update_count w v) t) fit one (few (w.count == 0)) refl refl)
   where
     few : (b : Bool) → cond b (count_of v.value) w.count ≤ element_limit
     few true = one.2
@@ -251,7 +251,7 @@ padded-some bytes some is =
     omega (arith, none, len, some)
 
 update-some : (w : Wanted) (v : Stored) (m : Fields) → ValueFits v.value → ShowsTo w v m → IsUpdating m
-update-some w v m one (t, typed, is) = subst IsUpdating (sym is) (by (shown v.value (update_count w v) t.base) refl)
+update-some w v m one (t, typed, is) = subst IsUpdating (sym is) (by (shown_in v.value (update_count w v) t) refl)
   where
     count : 0 < update_count w v
     count = go (w.count == 0) refl
@@ -260,9 +260,9 @@ update-some w v m one (t, typed, is) = subst IsUpdating (sym is) (by (shown v.va
         go true e = one.1
         go false e = some-of w.count e
 
-    by : (r : Result Elements Refusal) → shown v.value (update_count w v) t.base ≡ r → IsUpdating (update_in w v t r)
-    by (Ok e) is = (refl, padded-some (image t e v.meta) (shown-some v.value t (update_count w v) e v.meta one.0 count is))
-    by (Err r) is = (refl, padded-some (replicate (size_of_image t (update_count w v)) 0) (blank-some t (update_count w v) count))
+    by : (r : Result Elements Refusal) → shown_in v.value (update_count w v) t ≡ r → IsUpdating (update_in w v t r)
+    by (Ok e) is = (refl, padded-some (image_of v.value t e v.meta) (shown-some v.value t (update_count w v) e v.meta one.0 count is))
+    by (Err r) is = (refl, padded-some (replicate (size_in t (update_count w v)) 0) (blank-some t (update_count w v) count))
 
 leaves-update : (us : List Update) (e after : ServerEnd) → EndFits e → FoldsTo steps.Leaves e us after → AllAt (λ (u : Update). IsUpdating u.message) us
 leaves-update [] e after fit same = λ i u at. absurd cc

@@ -5,8 +5,7 @@ use Rattle.ca_text.specs.declared.command.Command.TheVariants as command
 use Rattle.ca_text.specs.declared.refusal.Refusal.{Refusal}
 use Rattle.ca_text.specs.Place.{At}
 use Rattle.ca_dbr.specs.Elements.{Elements}
-use Rattle.ca_dbr.specs.Shown.{shown}
-use Rattle.ca_dbr.specs.declared.data_type.DataType.{DataType}
+use Rattle.ca_display.specs.declared.image_type.ImageType.{ImageType}
 use Rattle.ca_records.specs.declared.puts.Put.{Put}
 use Rattle.ca_wire.specs.Fields.{Fields}
 use Rattle.ca_wire.specs.Header.{HeaderFits}
@@ -14,6 +13,7 @@ use Rattle.ca_wire.specs.Message.{header_of}
 use Rattle.ca_wire.specs.declared.requests.Wanted.{Wanted}
 use Rattle.ca_wire.specs.Messages.{disconnect}
 use Rattle.ca_model.specs.Due.{Action, Due, Knows}
+use Rattle.ca_model.specs.Images.{shown_in}
 use Rattle.ca_model.specs.ServerCalls.{finish_reply}
 use Rattle.ca_model.specs.Speech.{Id, Cid, Ioid, SubId, Is, Speaks, Stored}
 use Rattle.ca_model.specs.Updates.{ShowsTo, update_count, update_in}
@@ -37,8 +37,8 @@ removal-speaks up place s cid at is same id h =
 -- an update
 pub update-speaks : (up : List Sent) (place : ℕ) (s : Sent) (w : Wanted) (v : Stored) (m : Fields) → At up place s → Is command.EventAdd s.message → s.message.p2 ≡ w.id → ShowsTo w v m → (id : Id) → Speaks m id → Concerns up place id
 update-speaks up place s w v m at is same shows id h =
-    let t : DataType = shows.0 in
-    go (shown v.value (update_count w v) t.base) (subst (λ (x : Fields). Speaks x id) shows.2 h)
+    let t : ImageType = shows.0 in
+    go (shown_in v.value (update_count w v) t) (subst (λ (x : Fields). Speaks x id) shows.2 h)
   where
     so : id ≡ SubId w.id → Concerns up place id
     so e = subst (λ (x : Id). Concerns up place x) (sym e) (s, at, inl (is, same))

@@ -4,22 +4,16 @@ use Rattle.std.proofs.Common.{◌≡◌, ℕ, ◌+◌, ◌*◌, ◌%◌, ◌^◌
 use Rattle.std.specs.Prelude.{Ok, find, is_some, nat_lt, not, option_map, replicate, unwrap_or}
 use Rattle.std.proofs.lemmas.Bool.{both_ways, cases_Bool, eqb-true, ltb-false}
 use Rattle.std.proofs.lemmas.List.{length-append, length-replicate}
-use Rattle.ca_dbr.specs.Conversion.{converted}
 use Rattle.ca_dbr.specs.declared.data_type.BaseType.{BaseType}
-use Rattle.ca_dbr.specs.declared.data_type.BaseType.TheVariants as base
-use Rattle.ca_dbr.specs.declared.data_type.DataType.{DataType}
-use Rattle.ca_dbr.specs.declared.data_type.Form.{Form}
-use Rattle.ca_dbr.specs.declared.data_type.Form.TheVariants as form
 use Rattle.ca_dbr.specs.declared.value.Meta.{Meta}
 use Rattle.ca_dbr.specs.Elements.{Elements, base_of, count_of}
-use Rattle.ca_dbr.specs.Held.{IsHeldValue, kind_of}
-use Rattle.ca_dbr.specs.Image.{image}
+use Rattle.ca_dbr.specs.Held.{IsHeldValue, display_of, kind_of}
 use Rattle.ca_dbr.specs.Reading.{least_size}
-use Rattle.ca_dbr.specs.Shown.{shown}
-use Rattle.ca_dbr.specs.Types.{base_number, element_size, meta_size, padding_size, size_of_image}
+use Rattle.ca_dbr.specs.Types.{base_number}
 use Rattle.ca_dbr.proofs.OneReading.{base_number-small}
-use Rattle.ca_dbr.proofs.Helds.{length-held, shown-held}
-use Rattle.ca_dbr.proofs.Shows.{shown-is}
+use Rattle.ca_display.specs.declared.image_type.ImageType.{ImageType}
+use Rattle.ca_display.specs.Image.{size_in}
+use Rattle.ca_display.specs.Types.{base_in}
 use Rattle.ca_queue.specs.Keys.{is_among}
 use Rattle.ca_records.specs.Faults.{first_fault, has_misfit, lacks_conversion, late_put_fault}
 use Rattle.ca_records.specs.Given.{given_as}
@@ -38,8 +32,10 @@ use Rattle.ca_wire.proofs.Headers.{length-header_spelling}
 use Rattle.ca_wire.proofs.Padding.{message-of, padded-payload}
 use Rattle.ca_model.specs.Due.{Action, Adds, Applies, Clears, Drops, Due, Greets, KnownChannel, KnownRecord, Knows, Names, Nothing, Opens, PutRefused, PutTaken, Serves, StrayDue, Switches, Waits, fault_of_read, is_known, must_wait, named, rights_at}
 use Rattle.ca_model.specs.Ends.{Peer}
-use Rattle.ca_model.specs.Faults.{base_type_of, early_put_fault, read_count, read_fault, read_shown, subscribed_count, subscription_fault, too_many, type_of}
+use Rattle.ca_model.specs.Faults.{early_put_fault, read_count, read_fault, read_shown, subscribed_count, subscription_fault, too_many}
+use Rattle.ca_model.specs.Images.{base_type_of, image_of, image_type_of, lacks_conversion_to, lacks_type, shown_in}
 use Rattle.ca_model.specs.Speech.{In}
+use Rattle.ca_model.proofs.Showing.{length-image_of, shown_in-is, size_in-small, size_in-some}
 use Rattle.ca_laws_parts.proofs.Replies.{any-of, commands, each-at}
 use Rattle.ca_laws_parts.specs.ServerFits.{ValueFits, WantedFits}
 use Rattle.ca_laws_parts.specs.Streams.{AreMessages}
@@ -62,67 +58,24 @@ ActionFits did = Unit {0}
 
 -- ---- images
 
-pub small-image : (t : DataType) (n : ℕ) → n ≤ element_limit → size_of_image t n ≤ payload_limit
-small-image t n few = by t.base t.form
-  where
-    by : (b : BaseType) (f : Form) → meta_size f + padding_size f b + n * element_size b ≤ 16777216
-    by base.String form.Plain = omega (arith, few)
-    by base.String form.Status = omega (arith, few)
-    by base.String form.Time = omega (arith, few)
-    by base.Int form.Plain = omega (arith, few)
-    by base.Int form.Status = omega (arith, few)
-    by base.Int form.Time = omega (arith, few)
-    by base.Float form.Plain = omega (arith, few)
-    by base.Float form.Status = omega (arith, few)
-    by base.Float form.Time = omega (arith, few)
-    by base.Enum form.Plain = omega (arith, few)
-    by base.Enum form.Status = omega (arith, few)
-    by base.Enum form.Time = omega (arith, few)
-    by base.Char form.Plain = omega (arith, few)
-    by base.Char form.Status = omega (arith, few)
-    by base.Char form.Time = omega (arith, few)
-    by base.Long form.Plain = omega (arith, few)
-    by base.Long form.Status = omega (arith, few)
-    by base.Long form.Time = omega (arith, few)
-    by base.Double form.Plain = omega (arith, few)
-    by base.Double form.Status = omega (arith, few)
-    by base.Double form.Time = omega (arith, few)
-
 -- the image of what a reader is shown of a value
-pub shown-payload : (v : Elements) (t : DataType) (n : ℕ) (e : Elements) (meta : Meta) → IsHeldValue v → n ≤ element_limit → shown v n t.base ≡ Ok e → (count_of e ≡ n) × (length (image t e meta) ≤ payload_limit)
+pub shown-payload : (v : Elements) (t : ImageType) (n : ℕ) (e : Elements) (meta : Meta) → IsHeldValue v → n ≤ element_limit → shown_in v n t ≡ Ok e → (count_of e ≡ n) × (length (image_of v t e meta) ≤ payload_limit)
 shown-payload v t n e meta valued few is =
-    let s = shown-is v n t.base e is in
-    let len : length (image t e meta) ≡ size_of_image t n = length-held t e meta (sym s.0) (shown-held v n t.base e valued is) ∙ ap (λ (k : ℕ). size_of_image t k) s.1 in
-    (s.1, subst (λ (k : ℕ). k ≤ payload_limit) (sym len) (small-image t n few))
+    ((shown_in-is t n e v is).1, subst (λ (k : ℕ). k ≤ payload_limit) (sym (length-image_of t n v e meta valued is)) (size_in-small t n few))
 
 -- that of one element at least has a byte
-size-some : (t : DataType) (n : ℕ) → 0 < n → 0 < size_of_image t n
-size-some t n some = by t.base (meta_size t.form + padding_size t.form t.base)
-  where
-    by : (b : BaseType) (k : ℕ) → 0 < k + n * element_size b
-    by base.String k = omega (arith, some)
-    by base.Int k = omega (arith, some)
-    by base.Float k = omega (arith, some)
-    by base.Enum k = omega (arith, some)
-    by base.Char k = omega (arith, some)
-    by base.Long k = omega (arith, some)
-    by base.Double k = omega (arith, some)
+pub shown-some : (v : Elements) (t : ImageType) (n : ℕ) (e : Elements) (meta : Meta) → IsHeldValue v → 0 < n → shown_in v n t ≡ Ok e → 0 < length (image_of v t e meta)
+shown-some v t n e meta valued some is = subst (λ (k : ℕ). 0 < k) (sym (length-image_of t n v e meta valued is)) (size_in-some t n some)
 
-pub shown-some : (v : Elements) (t : DataType) (n : ℕ) (e : Elements) (meta : Meta) → IsHeldValue v → 0 < n → shown v n t.base ≡ Ok e → 0 < length (image t e meta)
-shown-some v t n e meta valued some is =
-    let s = shown-is v n t.base e is in
-    let len : length (image t e meta) ≡ size_of_image t n = length-held t e meta (sym s.0) (shown-held v n t.base e valued is) ∙ ap (λ (k : ℕ). size_of_image t k) s.1 in
-    subst (λ (k : ℕ). 0 < k) (sym len) (size-some t n some)
-
-pub blank-some : (t : DataType) (n : ℕ) → 0 < n → 0 < length {A = ℕ} (replicate (size_of_image t n) 0)
-blank-some t n some = subst (λ (k : ℕ). 0 < k) (sym (length-replicate (size_of_image t n) 0)) (size-some t n some)
+pub blank-some : (t : ImageType) (n : ℕ) → 0 < n → 0 < length {A = ℕ} (replicate (size_in t n) 0)
+blank-some t n some = subst (λ (k : ℕ). 0 < k) (sym (length-replicate (size_in t n) 0)) (size_in-some t n some)
 
 -- ---- statuses
 
 -- the faults of each kind of request, in order
-abbrev read_faults : RecordState → (rights : ℕ) → Fields → DataType → List (Bool × ℕ)
+abbrev read_faults : RecordState → (rights : ℕ) → Fields → ImageType → List (Bool × ℕ)
 read_faults r rights m t =
-    (not (may_read rights), no_read_access) ∷ (too_many r t (read_count r m), bad_count) ∷ (lacks_conversion (read_shown r m t), no_convert) ∷ (has_misfit (read_shown r m t), get_fail) ∷ []
+    (lacks_type (display_of r.value) t, bad_type) ∷ (not (may_read rights), no_read_access) ∷ (too_many r t (read_count r m), bad_count) ∷ (lacks_conversion (read_shown r m t), no_convert) ∷ (has_misfit (read_shown r m t), get_fail) ∷ []
 
 abbrev early_faults : RecordState → (rights : ℕ) → Fields → BaseType → List (Bool × ℕ)
 early_faults r rights m b =
@@ -132,10 +85,10 @@ abbrev late_faults : RecordState → Bool → ℕ → Elements → List (Bool ×
 late_faults r waits others e =
     (lacks_conversion (given_as e (kind_of r.value)), no_convert) ∷ (has_misfit (given_as e (kind_of r.value)), put_fail) ∷ (cond waits (not (nat_lt others waiting_puts)) false, put_fail) ∷ []
 
-abbrev event_faults : RecordState → (rights others : ℕ) → Bool → Fields → DataType → List (Bool × ℕ)
+abbrev event_faults : RecordState → (rights others : ℕ) → Bool → Fields → ImageType → List (Bool × ℕ)
 event_faults r rights others used m t =
-    (not (may_read rights), no_read_access) ∷ (nat_lt (length m.payload) 16 || (mask_in m % 16 == 0 || used), add_fail) ∷ (too_many r t (subscribed_count r m), bad_count)
-    ∷ (lacks_conversion (converted r.value t.base), no_convert) ∷ (not (nat_lt others (circuit_queues * queue_subscriptions)), add_fail) ∷ []
+    (lacks_type (display_of r.value) t, bad_type) ∷ (not (may_read rights), no_read_access) ∷ (nat_lt (length m.payload) 16 || (mask_in m % 16 == 0 || used), add_fail) ∷ (too_many r t (subscribed_count r m), bad_count)
+    ∷ (lacks_conversion_to (display_of r.value) r.value (base_in t), no_convert) ∷ (not (nat_lt others (circuit_queues * queue_subscriptions)), add_fail) ∷ []
 
 -- each has a number that fits
 abbrev AreSmall : List (Bool × ℕ) → Type 0
@@ -150,9 +103,9 @@ first-small (f ∷ fs) s small is = go f.0 is (first-small fs s small.1)
     go true is rest = subst (λ (k : ℕ). k < 2 ^ 32) (some_is f.1 s is) small.0
     go false is rest = rest is
 
-read-status : (r : RecordState) (rights s : ℕ) (m : Fields) (o : Option DataType) → read_fault r rights m o ≡ Some s → s < 2 ^ 32
+read-status : (r : RecordState) (rights s : ℕ) (m : Fields) (o : Option ImageType) → read_fault r rights m o ≡ Some s → s < 2 ^ 32
 read-status r rights s m None is = subst (λ (k : ℕ). k < 2 ^ 32) (some_is bad_type s is) (omega arith)
-read-status r rights s m (Some t) is = first-small (read_faults r rights m t) s (omega arith, (omega arith, (omega arith, (omega arith, tt)))) is
+read-status r rights s m (Some t) is = first-small (read_faults r rights m t) s (omega arith, (omega arith, (omega arith, (omega arith, (omega arith, tt))))) is
 
 early-status : (r : RecordState) (rights s : ℕ) (m : Fields) (o : Option BaseType) → early_put_fault r rights m o ≡ Some s → s < 2 ^ 32
 early-status r rights s m None is = subst (λ (k : ℕ). k < 2 ^ 32) (some_is bad_type s is) (omega arith)
@@ -161,9 +114,9 @@ early-status r rights s m (Some b) is = first-small (early_faults r rights m b) 
 late-status : (r : RecordState) (waits : Bool) (others s : ℕ) (e : Elements) → late_put_fault r waits others e ≡ Some s → s < 2 ^ 32
 late-status r waits others s e is = first-small (late_faults r waits others e) s (omega arith, (omega arith, (omega arith, tt))) is
 
-event-status : (r : RecordState) (rights others s : ℕ) (used : Bool) (m : Fields) (o : Option DataType) → subscription_fault r rights used others m o ≡ Some s → s < 2 ^ 32
+event-status : (r : RecordState) (rights others s : ℕ) (used : Bool) (m : Fields) (o : Option ImageType) → subscription_fault r rights used others m o ≡ Some s → s < 2 ^ 32
 event-status r rights others s used m None is = subst (λ (k : ℕ). k < 2 ^ 32) (some_is bad_type s is) (omega arith)
-event-status r rights others s used m (Some t) is = first-small (event_faults r rights others used m t) s (omega arith, (omega arith, (omega arith, (omega arith, (omega arith, tt))))) is
+event-status r rights others s used m (Some t) is = first-small (event_faults r rights others used m t) s (omega arith, (omega arith, (omega arith, (omega arith, (omega arith, (omega arith, tt)))))) is
 
 -- ---- counts of requests without fault
 
@@ -175,15 +128,15 @@ or-right : (a b : Bool) → (a || b) ≡ false → b ≡ false
 or-right true b e = absurd (both_ways true e refl)
 or-right false b e = e
 
-few-of : (r : RecordState) (t : DataType) (n : ℕ) → too_many r t n ≡ false → n ≤ r.count
-few-of r t n e = ltb-false r.count n (or-left (nat_lt r.count n) (nat_lt payload_limit (size_of_image t n)) e)
+few-of : (r : RecordState) (t : ImageType) (n : ℕ) → too_many r t n ≡ false → n ≤ r.count
+few-of r t n e = ltb-false r.count n (or-left (nat_lt r.count n) (nat_lt payload_limit (size_in t n)) e)
 
-read-few : (r : RecordState) (rights : ℕ) (m : Fields) (t : DataType) → read_fault r rights m (Some t) ≡ None → read_count r m ≤ r.count
-read-few r rights m t e = few-of r t (read_count r m) (none-each (read_faults r rights m t) e 1 (too_many r t (read_count r m), bad_count) refl)
+read-few : (r : RecordState) (rights : ℕ) (m : Fields) (t : ImageType) → read_fault r rights m (Some t) ≡ None → read_count r m ≤ r.count
+read-few r rights m t e = few-of r t (read_count r m) (none-each (read_faults r rights m t) e 2 (too_many r t (read_count r m), bad_count) refl)
 
-event-few : (r : RecordState) (rights others : ℕ) (used : Bool) (m : Fields) (o : Option DataType) → r.count ≤ element_limit → subscription_fault r rights used others m o ≡ None → m.count ≤ element_limit
+event-few : (r : RecordState) (rights others : ℕ) (used : Bool) (m : Fields) (o : Option ImageType) → r.count ≤ element_limit → subscription_fault r rights used others m o ≡ None → m.count ≤ element_limit
 event-few r rights others used m None le e = absurd cc
-event-few r rights others used m (Some t) le e = go (m.count == 0) refl (few-of r t (subscribed_count r m) (none-each (event_faults r rights others used m t) e 2 (too_many r t (subscribed_count r m), bad_count) refl))
+event-few r rights others used m (Some t) le e = go (m.count == 0) refl (few-of r t (subscribed_count r m) (none-each (event_faults r rights others used m t) e 3 (too_many r t (subscribed_count r m), bad_count) refl))
   where
     go : (b : Bool) → (m.count == 0) ≡ b → cond b r.count m.count ≤ r.count → m.count ≤ element_limit
     go true is few = (let z : m.count ≡ 0 = eqb-true m.count 0 is in omega (arith, z))
@@ -329,24 +282,24 @@ module _ (k : Knows) (m : Fields) (replies : List Fields) (did : Action) (f : Kn
   read-fits : IsSo → Whenever 15
   read-fits due e = elim (due.read e) [
     | inl (c, nothing, inl fault) ↦ (
-      one-is replies (status_reply m fault.0) (status-good m fault.0 good (read-status c.known.state (rights_at k c.channel.name) fault.0 m (type_of m.data_type) fault.1)) fault.2,
+      one-is replies (status_reply m fault.0) (status-good m fault.0 good (read-status c.known.state (rights_at k c.channel.name) fault.0 m (image_type_of m.data_type) fault.1)) fault.2,
       does did Nothing tt nothing,
     )
     | inl (c, nothing, inr value) ↦ (value-fits c value, does did Nothing tt nothing)
     | inr no_channel ↦ stray (λ cid. status_reply m bad_channel) (λ cid lt. status-good m bad_channel good (omega arith)) no_channel
   ]
     where
-      value-fits : (c : Serves k m.p1) → (fault_of_read k m c ≡ None) × ((t : DataType) × (e : Elements) × (type_of m.data_type ≡ Some t) × (read_shown c.known.state m t ≡ Ok e) × (replies ≡ value_reply m (count_of e) (image t e c.known.state.meta) ∷ [])) → AreMessages replies
+      value-fits : (c : Serves k m.p1) → (fault_of_read k m c ≡ None) × ((t : ImageType) × (e : Elements) × (image_type_of m.data_type ≡ Some t) × (read_shown c.known.state m t ≡ Ok e) × (replies ≡ value_reply m (count_of e) (image_of c.known.state.value t e c.known.state.meta) ∷ [])) → AreMessages replies
       value-fits c (none, (t, e, typed, is, are)) =
           let r : RecordState = c.known.state in
           let known = f.records c.channel.name c.known c.named in
-          let few : read_count r m ≤ r.count = read-few r (rights_at k c.channel.name) m t (subst (λ (o : Option DataType). read_fault r (rights_at k c.channel.name) m o ≡ None) typed none) in
+          let few : read_count r m ≤ r.count = read-few r (rights_at k c.channel.name) m t (subst (λ (o : Option ImageType). read_fault r (rights_at k c.channel.name) m o ≡ None) typed none) in
           let le : r.count ≤ element_limit = known.0 in
           let limit : read_count r m ≤ element_limit = omega (arith, few, le) in
           let p = shown-payload r.value t (read_count r m) e r.meta known.1.0 limit is in
           let count : count_of e ≡ read_count r m = p.0 in
-          one-is replies (value_reply m (count_of e) (image t e r.meta))
-          (message-of (value_reply m (count_of e) (image t e r.meta)) good.header.command good.header.data_type (omega (arith, count, limit)) (omega arith) good.header.p2 (padded-payload (image t e r.meta) p.1)) are
+          one-is replies (value_reply m (count_of e) (image_of r.value t e r.meta))
+          (message-of (value_reply m (count_of e) (image_of r.value t e r.meta)) good.header.command good.header.data_type (omega (arith, count, limit)) (omega arith) good.header.p2 (padded-payload (image_of r.value t e r.meta) p.1)) are
 
   refused-small : (c : Serves k m.p1) (s : ℕ) → PutRefused k m c s → s < 2 ^ 32
   refused-small c s (inl early) = early-status c.known.state (rights_at k c.channel.name) s m (base_type_of m.data_type) early
@@ -384,13 +337,13 @@ module _ (k : Knows) (m : Fields) (replies : List Fields) (did : Action) (f : Kn
   subscribe-fits due e = elim (due.subscribe e) [
     | inl (c, inl fault) ↦ (
       one-is replies (error_reply c.channel.cid fault.0 m)
-          (error-good c.channel.cid fault.0 m (cid-fits c) (event-status c.known.state (rights_at k c.channel.name) (length k.keys) fault.0 (is_among _ k.keys) m (type_of m.data_type) fault.1)) fault.2,
+          (error-good c.channel.cid fault.0 m (cid-fits c) (event-status c.known.state (rights_at k c.channel.name) (length k.keys) fault.0 (is_among _ k.keys) m (image_type_of m.data_type) fault.1)) fault.2,
       does did Nothing tt fault.3,
     )
     | inl (c, inr begins) ↦ (
       none-are replies begins.1,
       does did (Adds _)
-          (good.header.data_type, event-few c.known.state (rights_at k c.channel.name) (length k.keys) (is_among _ k.keys) m (type_of m.data_type) (f.records c.channel.name c.known c.named).0 begins.0, good.header.p2)
+          (good.header.data_type, event-few c.known.state (rights_at k c.channel.name) (length k.keys) (is_among _ k.keys) m (image_type_of m.data_type) (f.records c.channel.name c.known c.named).0 begins.0, good.header.p2)
           begins.2,
     )
     | inr no_channel ↦ stray (λ cid. error_reply cid bad_channel m) (λ cid lt. error-good cid bad_channel m lt (omega arith)) no_channel

@@ -1,24 +1,26 @@
 -- A subscription begins only under a key that none has on its circuit.
 use Rattle.std.proofs.Common.{◌≡◌, ℕ, ◌⊎◌, inl, inr, Bool, true, false, cond, ◌||◌, List, [], ◌∷◌, length, Option, Some, None, refl, sym, subst}
 use Rattle.std.specs.Prelude.{◌%◌, ◌*◌, ◌==◌, nat_lt, not}
-use Rattle.ca_dbr.specs.Conversion.{converted}
-use Rattle.ca_dbr.specs.declared.data_type.DataType.{DataType}
 use Rattle.ca_dbr.specs.Elements.{Elements}
+use Rattle.ca_dbr.specs.Held.{display_of}
+use Rattle.ca_display.specs.declared.image_type.ImageType.{ImageType}
+use Rattle.ca_display.specs.Types.{base_in}
 use Rattle.ca_queue.specs.Keys.{is_among}
-use Rattle.ca_records.specs.Faults.{first_fault, lacks_conversion}
+use Rattle.ca_records.specs.Faults.{first_fault}
 use Rattle.ca_records.specs.Record.{RecordState}
 use Rattle.ca_records.specs.Rules.{may_read}
 use Rattle.ca_queue.specs.declared.entry.SubKey.{SubKey}
 use Rattle.ca_text.specs.Command.{command_number}
 use Rattle.ca_text.specs.declared.command.Command.TheVariants as command
 use Rattle.ca_text.specs.Limits.{circuit_queues, queue_subscriptions}
-use Rattle.ca_text.specs.Status.{add_fail, bad_count, no_convert, no_read_access}
+use Rattle.ca_text.specs.Status.{add_fail, bad_count, bad_type, no_convert, no_read_access}
 use Rattle.ca_wire.specs.Fields.{Fields}
 use Rattle.ca_wire.specs.Messages.{mask_in}
 use Rattle.ca_model.specs.Due.{Action, Adds, Applies, Due, IsCreated, KnownChannel, Knows, Names, Nothing, Serves, fault_of_event, is_known, key_in, must_wait, named, rights_at, subscription_in}
 use Rattle.ca_model.specs.Due as action
 use Rattle.ca_model.specs.Ends.{Peer}
-use Rattle.ca_model.specs.Faults.{subscribed_count, subscription_fault, too_many, type_of}
+use Rattle.ca_model.specs.Faults.{subscribed_count, subscription_fault, too_many}
+use Rattle.ca_model.specs.Images.{image_type_of, lacks_conversion_to, lacks_type}
 use Rattle.ca_model.specs.Server.{Subscription, key_of}
 use Rattle.ca_laws_parts.proofs.Doing.{any-of, commands, each-at, known-or}
 
@@ -28,17 +30,18 @@ or-right : (a b : Bool) → a || b ≡ false → b ≡ false
 or-right true b e = absurd cc
 or-right false b e = e
 
-second-none : (a b c d e : Bool) (v w x y z : ℕ) → first_fault ((a, v) ∷ (b, w) ∷ (c, x) ∷ (d, y) ∷ (e, z) ∷ []) ≡ None → b ≡ false
-second-none true b c d e v w x y z is = absurd cc
-second-none false true c d e v w x y z is = absurd cc
-second-none false false c d e v w x y z is = refl
+third-none : (a b c d e f : Bool) (u v w x y z : ℕ) → first_fault ((a, u) ∷ (b, v) ∷ (c, w) ∷ (d, x) ∷ (e, y) ∷ (f, z) ∷ []) ≡ None → c ≡ false
+third-none true b c d e f u v w x y z is = absurd cc
+third-none false true c d e f u v w x y z is = absurd cc
+third-none false false true d e f u v w x y z is = absurd cc
+third-none false false false d e f u v w x y z is = refl
 
-refused-in-use : (r : RecordState) (rights others : ℕ) (b : Bool) (m : Fields) (t : Option DataType) → subscription_fault r rights b others m t ≡ None → b ≡ false
+refused-in-use : (r : RecordState) (rights others : ℕ) (b : Bool) (m : Fields) (t : Option ImageType) → subscription_fault r rights b others m t ≡ None → b ≡ false
 refused-in-use r rights others b m None is = absurd cc
 refused-in-use r rights others b m (Some t) is =
     let either : nat_lt (length m.payload) 16 || (mask_in m % 16 == 0 || b) ≡ false =
-    second-none (not (may_read rights)) (nat_lt (length m.payload) 16 || (mask_in m % 16 == 0 || b)) (too_many r t (subscribed_count r m)) (lacks_conversion (converted r.value t.base))
-    (not (nat_lt others (circuit_queues * queue_subscriptions))) no_read_access add_fail bad_count no_convert add_fail is in
+    third-none (lacks_type (display_of r.value) t) (not (may_read rights)) (nat_lt (length m.payload) 16 || (mask_in m % 16 == 0 || b)) (too_many r t (subscribed_count r m)) (lacks_conversion_to (display_of r.value) r.value (base_in t))
+    (not (nat_lt others (circuit_queues * queue_subscriptions))) bad_type no_read_access add_fail bad_count no_convert add_fail is in
     or-right (mask_in m % 16 == 0) b (or-right (nat_lt (length m.payload) 16) (mask_in m % 16 == 0 || b) either)
 
 -- ---- every command
@@ -171,4 +174,4 @@ adds-fresh k m replies s due =
     let b = due-adds k m replies s due in
     let c : Serves k m.p1 = b.1.0 in
     subst (λ (x : Subscription). is_among (key_of x) k.keys ≡ false) (sym (same-sub s (subscription_in m c.channel.name) b.1.3))
-    (refused-in-use c.known.state (rights_at k c.channel.name) (length k.keys) (is_among (key_in m) k.keys) m (type_of m.data_type) b.1.1)
+    (refused-in-use c.known.state (rights_at k c.channel.name) (length k.keys) (is_among (key_in m) k.keys) m (image_type_of m.data_type) b.1.1)

@@ -12,12 +12,12 @@ use Rattle.ca_text.specs.Place.{At}
 use Rattle.ca_text.proofs.Places.{At-mapped, At-parts, some_is}
 use Rattle.ca_arena.specs.declared.handle.Handle.{Handle}
 use Rattle.ca_dbr.specs.Elements.{Elements}
-use Rattle.ca_dbr.specs.Shown.{shown}
 use Rattle.ca_ids.specs.Table.{Table, held, under, with_each, with_each_from}
 use Rattle.ca_ids.specs.Wire.{wire_of}
 use Rattle.ca_wire.specs.declared.requests.Wanted.{Wanted}
 use Rattle.ca_wire.specs.Fields.{Fields}
 use Rattle.ca_wire.specs.Messages.{disconnect}
+use Rattle.ca_model.specs.Images.{shown_in}
 use Rattle.ca_model.specs.Sends.{Conduct, IsConnected, IsDisconnect, IsOpenAt, IsRefused, LegalServer, ReadsBetween}
 use Rattle.ca_model.specs.Server.{OpenChannel, ServerEnd, Subscription, key_of}
 use Rattle.ca_model.specs.ServerCalls.{channels_of, disconnects, end_without, is_on, retired}
@@ -38,7 +38,7 @@ use Rattle.ca_laws_parts.proofs.Spoken.{NoClear, NoDisconnect, NoErrors, cancel-
 
 -- an update carries the id of its subscription
 pub shows-id : (w : Wanted) (v : Stored) (m : Fields) → ShowsTo w v m → m.p2 ≡ w.id
-shows-id w v m (t, typed, is) = ap (λ (z : Fields). z.p2) is ∙ go (shown v.value (update_count w v) t.base)
+shows-id w v m (t, typed, is) = ap (λ (z : Fields). z.p2) is ∙ go (shown_in v.value (update_count w v) t)
   where
     go : (r : Result Elements Refusal) → (update_in w v t r).p2 ≡ w.id
     go (Ok e) = refl

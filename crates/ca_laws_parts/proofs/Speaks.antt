@@ -29,7 +29,7 @@ use Rattle.ca_wire.proofs.Padding.{message-of, padded-payload}
 use Rattle.ca_model.specs.Answers.{Notice, Sending}
 use Rattle.ca_model.specs.Client.{Client, Clearing, Connecting, Creating, Doomed, Leaving, Live, Native, On, Searching, Standing, later, standing_at}
 use Rattle.ca_model.specs.ClientCalls.{ClientClears, ClientOpens, ClientPuts, ClientReads, ClientSubscribes, ClientUnsubscribes, ClientWrites, Does, LiveChannel, Opening, Shape, ask_fault, cancel_sent, cleared, clearing_sent, fault_at, first_refusal, is_misfit, is_over, put_fault, unsubscribed}
-use Rattle.ca_model.specs.Faults.{all_types, type_of}
+use Rattle.ca_model.specs.Images.{all_types, type_of}
 use Rattle.ca_records.specs.Rules.{may_read, may_write}
 use Rattle.ca_laws_parts.specs.Held.{AreFew}
 use Rattle.ca_model.proofs.Standings.{found-standing}

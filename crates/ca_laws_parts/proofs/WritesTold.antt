@@ -18,7 +18,8 @@ use Rattle.ca_records.specs.Rules.{may_write}
 use Rattle.ca_requests.specs.Meaning.{Means}
 use Rattle.ca_wire.specs.Messages.{status_reply}
 use Rattle.ca_model.specs.Due.{Action, Applies, Due, Knows, Nothing, PutDue, PutRefused, Serves, Waits, must_wait, rights_at}
-use Rattle.ca_model.specs.Faults.{base_type_of, early_put_fault}
+use Rattle.ca_model.specs.Faults.{early_put_fault}
+use Rattle.ca_model.specs.Images.{base_type_of}
 use Rattle.ca_text.specs.declared.status.Status.{Status}
 use Rattle.ca_model.specs.Speech.{In, Is}
 use Rattle.ca_wire.specs.Fields.{Fields}

@@ -1,13 +1,13 @@
 -- Which replies tell that a channel is not known or retired, and to which messages they are due.
 use Rattle.std.proofs.Common.{◌≡◌, ℕ, zero, suc, ◌⊎◌, inl, inr, Bool, true, false, cond, not, ◌||◌, List, [], ◌∷◌, length, Option, Some, None, refl, sym, ap, subst, ◌∙◌, arith}
 use Rattle.std.specs.Prelude.{◌==◌, ◌%◌, ◌*◌, find, is_some, nat_lt, option_map}
-use Rattle.ca_dbr.specs.Conversion.{converted}
 use Rattle.ca_dbr.specs.declared.data_type.BaseType.{BaseType}
-use Rattle.ca_dbr.specs.declared.data_type.DataType.{DataType}
 use Rattle.ca_dbr.specs.declared.value.Outcome.TheVariants.{Failed}
 use Rattle.ca_dbr.specs.Elements.{Elements}
-use Rattle.ca_dbr.specs.Held.{kind_of}
+use Rattle.ca_dbr.specs.Held.{display_of, kind_of}
 use Rattle.ca_dbr.specs.Reading.{least_size}
+use Rattle.ca_display.specs.declared.image_type.ImageType.{ImageType}
+use Rattle.ca_display.specs.Types.{base_in}
 use Rattle.ca_queue.specs.Keys.{is_among}
 use Rattle.ca_records.specs.Faults.{first_fault, has_misfit, lacks_conversion, late_put_fault}
 use Rattle.ca_records.specs.Given.{given_as}
@@ -23,7 +23,7 @@ use Rattle.ca_wire.specs.Fields.{Fields}
 use Rattle.ca_wire.specs.Messages.{cancel_reply, error_reply, mask_in, not_found_reply, search_reply, status_reply, text_in, version_reply}
 use Rattle.ca_model.specs.Due.{Action, Due, key_in, IsRetired, IsUnknown, Knows, PutRefused, Serves, fault_of_event, fault_of_read, is_known, must_wait, rights_at}
 use Rattle.ca_model.specs.Faults.{early_put_fault, read_count, read_fault, read_shown, subscribed_count, subscription_fault, too_many}
-use Rattle.ca_model.specs.Faults as faults
+use Rattle.ca_model.specs.Images.{base_type_of, image_type_of, lacks_conversion_to, lacks_type}
 use Rattle.ca_model.specs.Speech.{In}
 use Rattle.ca_laws_parts.proofs.Doing.{any-of, commands, each-at, known-or}
 
@@ -47,11 +47,11 @@ fault-other (f ∷ fs) n others is = go f.0 is (λ h. fault-other fs n others.1 
 differs : (n : ℕ) → ◌≡◌ {A = Bool} (n == 410) false → n ≡ 410 → ⊥
 differs n e is = (let f : ◌≡◌ {A = Bool} true false = sym (ap (λ (k : ℕ). k == 410) is) ∙ e in cc)
 
-read-other : (r : RecordState) (rights : ℕ) (m : Fields) (t : Option DataType) (n : ℕ) → read_fault r rights m t ≡ Some n → n ≡ 410 → ⊥
+read-other : (r : RecordState) (rights : ℕ) (m : Fields) (t : Option ImageType) (n : ℕ) → read_fault r rights m t ≡ Some n → n ≡ 410 → ⊥
 read-other r rights m None n is = subst (λ (k : ℕ). k ≡ 410 → ⊥) (some_is bad_type n is) (differs 114 refl)
 read-other r rights m (Some t) n is =
-    fault-other ((not (may_read rights), no_read_access) ∷ (too_many r t (read_count r m), bad_count) ∷ (lacks_conversion (read_shown r m t), no_convert) ∷ (has_misfit (read_shown r m t), get_fail) ∷ []) n
-    (differs 368 refl, (differs 176 refl, (differs 400 refl, (differs 152 refl, tt)))) is
+    fault-other ((lacks_type (display_of r.value) t, bad_type) ∷ (not (may_read rights), no_read_access) ∷ (too_many r t (read_count r m), bad_count) ∷ (lacks_conversion (read_shown r m t), no_convert) ∷ (has_misfit (read_shown r m t), get_fail) ∷ []) n
+    (differs 114 refl, (differs 368 refl, (differs 176 refl, (differs 400 refl, (differs 152 refl, tt))))) is
 
 early-other : (r : RecordState) (rights : ℕ) (m : Fields) (b : Option BaseType) (n : ℕ) → early_put_fault r rights m b ≡ Some n → n ≡ 410 → ⊥
 early-other r rights m None n is = subst (λ (k : ℕ). k ≡ 410 → ⊥) (some_is bad_type n is) (differs 114 refl)
@@ -65,23 +65,23 @@ late-other r waits others e n is =
     (differs 400 refl, (differs 160 refl, (differs 160 refl, tt))) is
 
 put-other : (k : Knows) (m : Fields) (c : Serves k m.p1) (n : ℕ) → PutRefused k m c n → n ≡ 410 → ⊥
-put-other k m c n (inl early) = early-other c.known.state (rights_at k c.channel.name) m (faults.base_type_of m.data_type) n early
+put-other k m c n (inl early) = early-other c.known.state (rights_at k c.channel.name) m (base_type_of m.data_type) n early
 put-other k m c n (inr late) = late-other c.known.state (must_wait k m c) c.known.waits late.1.0 n late.1.2
 
-event-other : (r : RecordState) (rights : ℕ) (used : Bool) (others : ℕ) (m : Fields) (t : Option DataType) (n : ℕ) → subscription_fault r rights used others m t ≡ Some n → n ≡ 410 → ⊥
+event-other : (r : RecordState) (rights : ℕ) (used : Bool) (others : ℕ) (m : Fields) (t : Option ImageType) (n : ℕ) → subscription_fault r rights used others m t ≡ Some n → n ≡ 410 → ⊥
 event-other r rights used others m None n is = subst (λ (k : ℕ). k ≡ 410 → ⊥) (some_is bad_type n is) (differs 114 refl)
 event-other r rights used others m (Some t) n is =
     fault-other (
-    (not (may_read rights), no_read_access) ∷ (nat_lt (length m.payload) 16 || (mask_in m % 16 == 0 || used), add_fail) ∷ (too_many r t (subscribed_count r m), bad_count)
-    ∷ (lacks_conversion (converted r.value t.base), no_convert) ∷ (not (nat_lt others (circuit_queues * queue_subscriptions)), add_fail) ∷ []
+    (lacks_type (display_of r.value) t, bad_type) ∷ (not (may_read rights), no_read_access) ∷ (nat_lt (length m.payload) 16 || (mask_in m % 16 == 0 || used), add_fail) ∷ (too_many r t (subscribed_count r m), bad_count)
+    ∷ (lacks_conversion_to (display_of r.value) r.value (base_in t), no_convert) ∷ (not (nat_lt others (circuit_queues * queue_subscriptions)), add_fail) ∷ []
     ) n
-    (differs 368 refl, (differs 168 refl, (differs 176 refl, (differs 400 refl, (differs 168 refl, tt))))) is
+    (differs 114 refl, (differs 368 refl, (differs 168 refl, (differs 176 refl, (differs 400 refl, (differs 168 refl, tt)))))) is
 
 read-fault-other : (k : Knows) (m : Fields) (c : Serves k m.p1) (n : ℕ) → fault_of_read k m c ≡ Some n → n ≡ 410 → ⊥
-read-fault-other k m c n is = read-other c.known.state (rights_at k c.channel.name) m (faults.type_of m.data_type) n is
+read-fault-other k m c n is = read-other c.known.state (rights_at k c.channel.name) m (image_type_of m.data_type) n is
 
 event-fault-other : (k : Knows) (m : Fields) (c : Serves k m.p1) (n : ℕ) → fault_of_event k m c ≡ Some n → n ≡ 410 → ⊥
-event-fault-other k m c n is = event-other c.known.state (rights_at k c.channel.name) (is_among (key_in m) k.keys) (length k.keys) m (faults.type_of m.data_type) n is
+event-fault-other k m c n is = event-other c.known.state (rights_at k c.channel.name) (is_among (key_in m) k.keys) (length k.keys) m (image_type_of m.data_type) n is
 
 -- ---- what a message means
 

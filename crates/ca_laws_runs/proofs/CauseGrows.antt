@@ -7,7 +7,6 @@ use Rattle.std.specs.Str.{bytes_eq}
 use Rattle.std.proofs.lemmas.List.{length-append}
 use Rattle.ca_arena.specs.declared.handle.Handle.{Handle}
 use Rattle.ca_dbr.specs.Elements.{Elements}
-use Rattle.ca_dbr.specs.Shown.{shown}
 use Rattle.ca_ids.specs.Table.{held, under}
 use Rattle.ca_ids.specs.Wire.{wire_of}
 use Rattle.ca_model.proofs.Tables.{held-under}
@@ -25,6 +24,7 @@ use Rattle.ca_model.specs.Due.{Action}
 use Rattle.ca_model.specs.Ends as why
 use Rattle.ca_model.specs.History as history
 use Rattle.ca_model.specs.History.{Cause, Circuit, Collected, GaveUp, Removal, Reply, Sent, Step, Told}
+use Rattle.ca_model.specs.Images.{shown_in}
 use Rattle.ca_model.specs.Server.{Open, OpenChannel, Server, ServerCircuit, ServerEnd}
 use Rattle.ca_model.specs.ServerCalls.{channels_of, finish_reply}
 use Rattle.ca_model.specs.ServerSteps.{HasEnd, Stepped, Update, closed}
@@ -380,7 +380,7 @@ leaves-adds [] e after folds k u at = absurd (none_at k u at)
 leaves-adds (v ∷ us) e after (mid, one, rest) zero u at = subst (λ (z : Update). Is command.EventAdd z.message) (some_is v u at) (by one.shows)
   where
     by : ShowsTo v.of.wanted v.carries v.message → Is command.EventAdd v.message
-    by (t, typed, is) = ap (λ (m : Fields). m.command) is ∙ shown-adds (shown v.carries.value (update_count v.of.wanted v.carries) t.base)
+    by (t, typed, is) = ap (λ (m : Fields). m.command) is ∙ shown-adds (shown_in v.carries.value (update_count v.of.wanted v.carries) t)
       where
         shown-adds : (r : Result Elements Refusal) → (update_in v.of.wanted v.carries t r).command ≡ 1
         shown-adds (Ok e) = refl

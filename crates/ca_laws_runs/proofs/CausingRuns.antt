@@ -4,8 +4,8 @@ use Rattle.std.specs.Prelude.{Ok, Err, Result, filter, not, option_map, slice_ge
 use Rattle.std.specs.List.{FoldsTo}
 use Rattle.std.specs.Str.{bytes_eq}
 use Rattle.ca_arena.specs.declared.handle.Handle.{Handle}
-use Rattle.ca_dbr.specs.declared.data_type.DataType.{DataType}
 use Rattle.ca_dbr.specs.Elements.{Elements}
+use Rattle.ca_display.specs.declared.image_type.ImageType.{ImageType}
 use Rattle.ca_link.specs.Link.{with_rest}
 use Rattle.ca_records.specs.Puts.{Record, record_named}
 use Rattle.ca_text.specs.declared.command.Command.TheVariants as command
@@ -18,10 +18,10 @@ use Rattle.ca_model.specs.Answers.{Closing}
 use Rattle.ca_model.specs.Due.{Due}
 use Rattle.ca_model.specs.History.{Cause, Circuit, Entry, On, Removal, Reply, Sent, Step, Subscribe, Told, Update}
 use Rattle.ca_model.specs.History as history
+use Rattle.ca_model.specs.Images.{shown_in}
 use Rattle.ca_model.specs.Server.{Server, ServerEnd}
 use Rattle.ca_model.specs.ServerSteps.{Stepped, knows}
 use Rattle.ca_model.specs.Speech.{Creates, In, Is, Stored}
-use Rattle.ca_dbr.specs.Shown.{shown}
 use Rattle.ca_model.specs.Updates.{Shows, ShowsTo, update_count, update_in}
 use Rattle.ca_model.specs.Channels.{Has, Suits}
 use Rattle.ca_model.specs.Causes.{Accepted, HasCause}
@@ -69,12 +69,12 @@ ready s es stopped w ok runs = record {
 
 -- ---- only replies create channels
 
-update-is : (x : Wanted) (v : Stored) (t : DataType) (r : Result Elements Refusal) → (update_in x v t r).command ≡ 1
+update-is : (x : Wanted) (v : Stored) (t : ImageType) (r : Result Elements Refusal) → (update_in x v t r).command ≡ 1
 update-is x v t (Ok e) = refl
 update-is x v t (Err r) = refl
 
 shows-to : (x : Wanted) (v : Stored) (m : Fields) → ShowsTo x v m → m.command ≡ 1
-shows-to x v m (t, typed, is) = ap (λ (z : Fields). z.command) is ∙ update-is x v t (shown v.value (update_count x v) t.base)
+shows-to x v m (t, typed, is) = ap (λ (z : Fields). z.command) is ∙ update-is x v t (shown_in v.value (update_count x v) t)
 
 shows-command : (add : Fields) (v : Stored) (m : Fields) → Shows add v m → m.command ≡ 1
 shows-command add v m shows = shows-to (record { sid = add.p1; id = add.p2; data_type = add.data_type; count = add.count }) v m shows

@@ -1,8 +1,7 @@
 -- What servers know of their open channels and subscriptions, after every run.
 use Rattle.std.proofs.Common.{◌≡◌, ℕ, true, List, Option, refl, sym, ap, subst, ◌∙◌, arith}
 use Rattle.ca_dbr.specs.Elements.{Elements}
-use Rattle.ca_dbr.specs.declared.data_type.DataType.{DataType}
-use Rattle.ca_dbr.specs.Shown.{shown}
+use Rattle.ca_display.specs.declared.image_type.ImageType.{ImageType}
 use Rattle.std.specs.Prelude.{Ok, Err, Result}
 use Rattle.ca_text.specs.declared.refusal.Refusal.{Refusal}
 use Rattle.ca_text.specs.Place.{At}
@@ -10,6 +9,7 @@ use Rattle.ca_text.proofs.Places.{At-one}
 use Rattle.ca_wire.specs.declared.requests.Wanted.{Wanted}
 use Rattle.ca_wire.specs.Fields.{Fields}
 use Rattle.ca_model.specs.History.{Cause, Entry, Removal, Removed, Reply, Told, Update}
+use Rattle.ca_model.specs.Images.{shown_in}
 use Rattle.ca_model.specs.Server.{ServerEnd}
 use Rattle.ca_model.specs.ServerSteps.{HasEnd}
 use Rattle.ca_model.specs.Speech.{Creates, In, Stored}
@@ -35,12 +35,12 @@ use Rattle.ca_laws_runs.proofs.PostFollowing.{titled}
 
 -- ---- only replies create channels
 
-update-is : (x : Wanted) (v : Stored) (t : DataType) (r : Result Elements Refusal) → (update_in x v t r).command ≡ 1
+update-is : (x : Wanted) (v : Stored) (t : ImageType) (r : Result Elements Refusal) → (update_in x v t r).command ≡ 1
 update-is x v t (Ok e) = refl
 update-is x v t (Err r) = refl
 
 pub shows-to : (x : Wanted) (v : Stored) (m : Fields) → ShowsTo x v m → m.command ≡ 1
-shows-to x v m (t, typed, is) = ap (λ (z : Fields). z.command) is ∙ update-is x v t (shown v.value (update_count x v) t.base)
+shows-to x v m (t, typed, is) = ap (λ (z : Fields). z.command) is ∙ update-is x v t (shown_in v.value (update_count x v) t)
 
 shows-command : (add : Fields) (v : Stored) (m : Fields) → Shows add v m → m.command ≡ 1
 shows-command add v m shows = shows-to (record { sid = add.p1; id = add.p2; data_type = add.data_type; count = add.count }) v m shows

@@ -16,7 +16,7 @@ use Rattle.ca_dbr.proofs.Images.{length-bytes_of}
 use Rattle.ca_dbr.proofs.OneReading.{reads_elements-one}
 use Rattle.ca_wire.specs.Fields.{Fields, padded}
 use Rattle.ca_model.specs.Due.{PutReads}
-use Rattle.ca_model.specs.Faults.{base_type_of}
+use Rattle.ca_model.specs.Images.{base_type_of}
 use Rattle.ca_model.specs.Channels.{IsRequest}
 use Rattle.ca_model.specs.History.{Cancel, Clear, Create, Intent, Line, OfCircuit, On, Put, Read, Request, Sent, Subscribe, Write}
 use Rattle.ca_model.specs.Events.{Event}

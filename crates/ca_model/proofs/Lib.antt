@@ -1,3 +1,4 @@
+pub mod Showing
 pub mod Tables
 pub mod Handles
 pub mod Standings

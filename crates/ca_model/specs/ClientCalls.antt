@@ -26,7 +26,7 @@ use Rattle.ca_monitor.specs.Subscriptions.{Subscription, standing_under, with_st
 use Rattle.ca_monitor.specs.Subscriptions as monitor
 use Rattle.ca_records.specs.Rules.{may_read, may_write}
 use Rattle.ca_model.specs.Ends.{Address}
-use Rattle.ca_model.specs.Faults.{type_of}
+use Rattle.ca_model.specs.Images.{type_of}
 use Rattle.ca_model.specs.Answers.{Notice, Sending}
 use Rattle.ca_model.specs.Answers as aim
 use Rattle.ca_model.specs.Client.{Channel, Client, ClientCircuit, Native, On, Phase, Searching}

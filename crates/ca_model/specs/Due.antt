@@ -8,12 +8,11 @@ use Rattle.ca_text.specs.declared.command.Command.{Command}
 use Rattle.ca_text.specs.declared.command.Command.TheVariants as command
 use Rattle.ca_text.specs.Status.{bad_channel, normal}
 use Rattle.ca_dbr.specs.declared.data_type.BaseType.{BaseType}
-use Rattle.ca_dbr.specs.declared.data_type.DataType.{DataType}
 use Rattle.ca_dbr.specs.Elements.{Elements, base_of, count_of}
 use Rattle.ca_dbr.specs.Held.{kind_of}
-use Rattle.ca_dbr.specs.Image.{image}
 use Rattle.ca_dbr.specs.Reading.{ReadsElements}
 use Rattle.ca_dbr.specs.Types.{base_number}
+use Rattle.ca_display.specs.declared.image_type.ImageType.{ImageType}
 use Rattle.ca_queue.specs.declared.entry.SubKey.{SubKey}
 use Rattle.ca_queue.specs.Keys.{is_among}
 use Rattle.ca_records.specs.Faults.{late_put_fault}
@@ -26,8 +25,9 @@ use Rattle.ca_wire.specs.Messages.{error_reply}
 use Rattle.ca_wire.specs.Messages.{failed_reply, mask_in, no_cid, not_found_reply, rights_reply}
 use Rattle.ca_wire.specs.Messages.{search_reply, status_reply, text_in, value_reply, version_reply}
 use Rattle.ca_model.specs.Ends.{Peer}
-use Rattle.ca_model.specs.Faults.{base_type_of, early_put_fault, read_fault, read_shown}
-use Rattle.ca_model.specs.Faults.{subscription_fault, type_of}
+use Rattle.ca_model.specs.Faults.{early_put_fault, read_fault, read_shown}
+use Rattle.ca_model.specs.Faults.{subscription_fault}
+use Rattle.ca_model.specs.Images.{base_type_of, image_of, image_type_of}
 use Rattle.ca_model.specs.Server.{Subscription}
 use Rattle.ca_model.specs.Speech.{In}
 
@@ -136,7 +136,8 @@ pub record IsNotCreated (k : Knows) (m : Fields) (replies : List Fields)
 
 -- the first fault of a read
 abbrev pub fault_of_read : (k : Knows) (m : Fields) → Serves k m.p1 → Option ℕ
-fault_of_read k m c = read_fault c.known.state (rights_at k c.channel.name) m (type_of m.data_type)
+fault_of_read k m c =
+    read_fault c.known.state (rights_at k c.channel.name) m (image_type_of m.data_type)
 
 -- The reply to a read on an open channel: its first fault, or the elements that it is shown.
 abbrev pub ReadDue : Knows → Fields → List Fields → Action → Type 0
@@ -144,9 +145,10 @@ ReadDue k m replies action =
     (c : Serves k m.p1) × (action ≡ Nothing)
     × (((status : ℕ) × (fault_of_read k m c ≡ Some status) × (replies ≡ status_reply m status ∷ []))
     ⊎ ((fault_of_read k m c ≡ None)
-    × ((t : DataType) × (e : Elements) × (type_of m.data_type ≡ Some t)
+    × ((t : ImageType) × (e : Elements) × (image_type_of m.data_type ≡ Some t)
     × (read_shown c.known.state m t ≡ Ok e)
-    × (replies ≡ value_reply m (count_of e) (image t e c.known.state.meta) ∷ []))))
+    × (replies ≡ value_reply m (count_of e)
+    (image_of c.known.state.value t e c.known.state.meta) ∷ []))))
 
 -- ---- WRITE and WRITE_NOTIFY ("CA_PROTO_WRITE", "CA_PROTO_WRITE_NOTIFY")
 
@@ -232,7 +234,7 @@ key_in m = record { sid = m.p1; sub = m.p2 }
 abbrev pub fault_of_event : (k : Knows) (m : Fields) → Serves k m.p1 → Option ℕ
 fault_of_event k m c =
     subscription_fault c.known.state (rights_at k c.channel.name) (is_among (key_in m) k.keys)
-    (length k.keys) m (type_of m.data_type)
+    (length k.keys) m (image_type_of m.data_type)
 
 -- An EVENT_ADD is refused by ERROR, or its subscription begins, without a reply.
 abbrev pub EventDue : Knows → Fields → List Fields → Action → Type 0

@@ -1,54 +1,30 @@
 -- Vocabulary: which fault of a request is answered by which status (section "Status Codes"). The
 -- first that is there decides.
-use Rattle.std.specs.Prelude.{ℕ, ◌==◌, ◌%◌, ◌*◌, ◌||◌, Bool, not, List, [], ◌∷◌, Option, Some, None}
-use Rattle.std.specs.Prelude.{Result, find, if◌then◌else◌, length, map, nat_lt}
-use Rattle.std.specs.List.{flat_map}
+use Rattle.std.specs.Prelude.{ℕ, ◌==◌, ◌%◌, ◌*◌, ◌||◌, Bool, not, [], ◌∷◌, Option, Some, None}
+use Rattle.std.specs.Prelude.{Result, if◌then◌else◌, length, nat_lt}
 use Rattle.ca_text.specs.declared.refusal.Refusal.{Refusal}
 use Rattle.ca_text.specs.Limits.{circuit_queues, payload_limit, queue_subscriptions}
 use Rattle.ca_text.specs.Status.{add_fail, bad_count, bad_type, get_fail, no_convert}
 use Rattle.ca_text.specs.Status.{no_read_access, no_write_access}
 use Rattle.ca_dbr.specs.declared.data_type.BaseType.{BaseType}
-use Rattle.ca_dbr.specs.declared.data_type.BaseType.TheVariants as base
-use Rattle.ca_dbr.specs.declared.data_type.DataType.{DataType}
-use Rattle.ca_dbr.specs.declared.data_type.Form.{Form}
-use Rattle.ca_dbr.specs.declared.data_type.Form.TheVariants as form
-use Rattle.ca_dbr.specs.Conversion.{converted}
 use Rattle.ca_dbr.specs.Elements.{Elements, count_of}
+use Rattle.ca_dbr.specs.Held.{display_of}
 use Rattle.ca_dbr.specs.Reading.{least_size}
-use Rattle.ca_dbr.specs.Shown.{shown}
-use Rattle.ca_dbr.specs.Types.{base_number, size_of_image, type_number}
+use Rattle.ca_display.specs.declared.image_type.ImageType.{ImageType}
+use Rattle.ca_display.specs.Image.{size_in}
+use Rattle.ca_display.specs.Types.{base_in}
 use Rattle.ca_records.specs.Faults.{first_fault, has_misfit, lacks_conversion}
 use Rattle.ca_records.specs.Record.{RecordState}
 use Rattle.ca_records.specs.Rules.{may_read, may_write}
 use Rattle.ca_wire.specs.Fields.{Fields}
 use Rattle.ca_wire.specs.Messages.{mask_in}
-
--- ---- types by their numbers ("Payload Data Types")
-
--- the types of elements
-abbrev pub base_types : List BaseType
-base_types =
-    base.String ∷ base.Int ∷ base.Float ∷ base.Enum ∷ base.Char ∷ base.Long ∷ base.Double ∷ []
-
--- these types plain, with status, and with a time stamp
-abbrev pub all_types : List DataType
-all_types =
-    flat_map (λ (f : Form). map (λ (b : BaseType). record { base = b; form = f }) base_types)
-    (form.Plain ∷ form.Status ∷ form.Time ∷ [])
-
--- the type of this number
-abbrev pub type_of : ℕ → Option DataType
-type_of n = find (λ (t : DataType). type_number t == n) all_types
-
--- the plain type of this number
-abbrev pub base_type_of : ℕ → Option BaseType
-base_type_of n = find (λ (b : BaseType). base_number b == n) base_types
+use Rattle.ca_model.specs.Images.{lacks_conversion_to, lacks_type, shown_in}
 
 -- ---- single faults
 
 -- n elements are over the greatest count, or their image is over the payload limit
-abbrev pub too_many : RecordState → DataType → ℕ → Bool
-too_many r t n = nat_lt r.count n || nat_lt payload_limit (size_of_image t n)
+abbrev pub too_many : RecordState → ImageType → ℕ → Bool
+too_many r t n = nat_lt r.count n || nat_lt payload_limit (size_in t n)
 
 -- ---- requests, in order of their faults
 
@@ -57,16 +33,18 @@ abbrev pub read_count : RecordState → Fields → ℕ
 read_count r m = if m.count == 0 then count_of r.value else m.count
 
 -- what a READ_NOTIFY of this type is shown ("CA_PROTO_READ_NOTIFY")
-abbrev pub read_shown : RecordState → Fields → DataType → Result Elements Refusal
-read_shown r m t = shown r.value (read_count r m) t.base
+abbrev pub read_shown : RecordState → Fields → ImageType → Result Elements Refusal
+read_shown r m t = shown_in r.value (read_count r m) t
 
--- READ_NOTIFY: a type over 20 BADTYPE; no right to read NORDACCESS; a count over the greatest or an
--- image over the payload limit BADCOUNT; no conversion NOCONVERT; a text or a range GETFAIL.
-abbrev pub read_fault : RecordState → (rights : ℕ) → Fields → Option DataType → Option ℕ
+-- READ_NOTIFY: a type that the record has not BADTYPE; no right to read NORDACCESS; a count over
+-- the greatest or an image over the payload limit BADCOUNT; no conversion NOCONVERT; a text or a
+-- range GETFAIL.
+abbrev pub read_fault : RecordState → (rights : ℕ) → Fields → Option ImageType → Option ℕ
 read_fault r rights m None = Some bad_type
 read_fault r rights m (Some t) =
     first_fault (
-    (not (may_read rights), no_read_access)
+    (lacks_type (display_of r.value) t, bad_type)
+    ∷ (not (may_read rights), no_read_access)
     ∷ (too_many r t (read_count r m), bad_count)
     ∷ (lacks_conversion (read_shown r m t), no_convert)
     ∷ (has_misfit (read_shown r m t), get_fail)
@@ -92,18 +70,19 @@ early_put_fault r rights m (Some b) =
 abbrev pub subscribed_count : RecordState → Fields → ℕ
 subscribed_count r m = if m.count == 0 then r.count else m.count
 
--- EVENT_ADD: a type over 20 BADTYPE; no right to read NORDACCESS; a payload under 16 bytes, no mask
--- bit, or the id in use on that channel, ADDFAIL; a count as in a read BADCOUNT; no conversion
--- NOCONVERT; 288 subscriptions on the circuit ADDFAIL.
+-- EVENT_ADD: a type that the record has not BADTYPE; no right to read NORDACCESS; a payload under
+-- 16 bytes, no mask bit, or the id in use on that channel, ADDFAIL; a count as in a read BADCOUNT;
+-- no conversion NOCONVERT; 288 subscriptions on the circuit ADDFAIL.
 abbrev pub subscription_fault : RecordState → (rights : ℕ) → (in_use : Bool) → (others : ℕ) → Fields
-    → Option DataType → Option ℕ
+    → Option ImageType → Option ℕ
 subscription_fault r rights in_use others m None = Some bad_type
 subscription_fault r rights in_use others m (Some t) =
     first_fault (
-    (not (may_read rights), no_read_access)
+    (lacks_type (display_of r.value) t, bad_type)
+    ∷ (not (may_read rights), no_read_access)
     ∷ (nat_lt (length m.payload) 16 || (mask_in m % 16 == 0 || in_use), add_fail)
     ∷ (too_many r t (subscribed_count r m), bad_count)
-    ∷ (lacks_conversion (converted r.value t.base), no_convert)
+    ∷ (lacks_conversion_to (display_of r.value) r.value (base_in t), no_convert)
     ∷ (not (nat_lt others (circuit_queues * queue_subscriptions)), add_fail)
     ∷ []
     )

@@ -3,6 +3,7 @@ pub mod History
 pub mod Sends
 pub mod Ends
 pub mod Server
+pub mod Images
 pub mod Faults
 pub mod Due
 pub mod Updates

@@ -15,7 +15,8 @@ use Rattle.ca_wire.specs.Fields.{Fields}
 use Rattle.ca_wire.specs.Header.{number16}
 use Rattle.ca_wire.specs.Messages.{header_only, cancel_reply, cleared_reply, error_reply, status_reply, version_reply}
 use Rattle.ca_model.specs.Due.{Action, Adds, Applies, Clears, Drops, Due, EventDue, Greets, IsCreated, IsNotCreated, IsRetired, IsUnknown, KnownChannel, KnownRecord, Knows, Names, Nothing, Opens, PutDue, PutReads, ReadDue, Serves, StrayDue, Switches, Waits, WriteDue, fault_of_read, must_wait, is_known, key_in, rights_at, named, search_due}
-use Rattle.ca_model.specs.Faults.{base_type_of, early_put_fault, read_fault, subscription_fault, type_of}
+use Rattle.ca_model.specs.Faults.{early_put_fault, read_fault, subscription_fault}
+use Rattle.ca_model.specs.Images.{base_type_of, image_type_of}
 use Rattle.ca_records.specs.Rules.{Rule, rights}
 use Rattle.ca_wire.specs.Messages.{text_in}
 use Rattle.ca_model.specs.Speech.{In}
@@ -345,9 +346,9 @@ reads-due =
     )
 
 temp-fault : (rules : List Rule) (c : Serves (ruled false 0 rules) 65536) (f : Option ℕ) → fault_of_read (ruled false 0 rules) (read_on 65536) c ≡ f
-    → read_fault temp (rights rules [] hall temp_name) (read_on 65536) (type_of 5) ≡ f
+    → read_fault temp (rights rules [] hall temp_name) (read_on 65536) (image_type_of 5) ≡ f
 temp-fault rules c f h =
-    as-temp false 0 rules (λ (x : KnownChannel) (r : KnownRecord). read_fault r.state (rights_at (ruled false 0 rules) x.name) (read_on 65536) (type_of 5) ≡ f) c h
+    as-temp false 0 rules (λ (x : KnownChannel) (r : KnownRecord). read_fault r.state (rights_at (ruled false 0 rules) x.name) (read_on 65536) (image_type_of 5) ≡ f) c h
 
 pub reads-not-due : AreNotDue reads_not_due
 unfolding signed_bytes_4
@@ -558,10 +559,10 @@ subscriptions-due =
     )
 
 event-fault : (m : Fields) (c : Serves seated 65536) (f : Option ℕ)
-    → subscription_fault c.known.state (rights_at seated c.channel.name) (is_among (key_in m) seated.keys) 1 m (type_of m.data_type) ≡ f
-    → subscription_fault temp 3 (is_among (key_in m) seated.keys) 1 m (type_of m.data_type) ≡ f
+    → subscription_fault c.known.state (rights_at seated c.channel.name) (is_among (key_in m) seated.keys) 1 m (image_type_of m.data_type) ≡ f
+    → subscription_fault temp 3 (is_among (key_in m) seated.keys) 1 m (image_type_of m.data_type) ≡ f
 event-fault m c f h =
-    as-temp false 0 [] (λ (x : KnownChannel) (r : KnownRecord). subscription_fault r.state (rights_at seated x.name) (is_among (key_in m) seated.keys) 1 m (type_of m.data_type) ≡ f) c h
+    as-temp false 0 [] (λ (x : KnownChannel) (r : KnownRecord). subscription_fault r.state (rights_at seated x.name) (is_among (key_in m) seated.keys) 1 m (image_type_of m.data_type) ≡ f) c h
 
 pub subscriptions-not-due : AreNotDue subscriptions_not_due
 unfolding number16

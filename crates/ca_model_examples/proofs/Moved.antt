@@ -7,6 +7,7 @@ use Rattle.ca_dbr.specs.declared.value.Outcome.{Outcome}
 use Rattle.ca_dbr.specs.declared.value.Outcome.TheVariants as outcome
 use Rattle.ca_dbr.specs.declared.data_type.BaseType.TheVariants as base
 use Rattle.ca_dbr.specs.declared.data_type.Form.TheVariants as form
+use Rattle.ca_display.specs.declared.image_type.ImageType.TheVariants as any
 use Rattle.ca_dbr.specs.Elements as E
 use Rattle.ca_model.specs.Speech.{Stored}
 use Rattle.ca_wire.specs.Messages.{mask_in}
@@ -271,11 +272,11 @@ is-update c = false
 
 shows-7 : Shows (adding 0 9).message (long 7) (first_update 1 7).message
 unfolding E.signed_bytes_4
-shows-7 = (record { base = base.Long; form = form.Plain }, refl, refl)
+shows-7 = (any.Data (record { base = base.Long; form = form.Plain }), refl, refl)
 
 shows-5 : Shows (adding 0 9).message (long 5) (first_update 1 5).message
 unfolding E.signed_bytes_4
-shows-5 = (record { base = base.Long; form = form.Plain }, refl, refl)
+shows-5 = (any.Data (record { base = base.Long; form = form.Plain }), refl, refl)
 
 -- both circuits have one form
 module _ (server live read value : ℕ) (stays : Bool) (shows : Shows (adding 0 9).message (long value) (first_update 1 value).message) where

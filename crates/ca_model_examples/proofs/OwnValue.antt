@@ -7,17 +7,18 @@ use Rattle.ca_text.specs.Place.{At}
 use Rattle.ca_text.specs.declared.refusal.Refusal.{Refusal}
 use Rattle.ca_text.proofs.Places.{some_is}
 use Rattle.ca_dbr.specs.declared.data_type.BaseType.TheVariants as base
-use Rattle.ca_dbr.specs.declared.data_type.DataType.{DataType}
 use Rattle.ca_dbr.specs.declared.data_type.Form.TheVariants as form
 use Rattle.ca_dbr.specs.Elements as E
 use Rattle.ca_dbr.specs.Elements.{Elements, count_of, longs}
-use Rattle.ca_dbr.specs.Image.{image}
+use Rattle.ca_display.specs.declared.image_type.ImageType.{ImageType}
+use Rattle.ca_display.specs.declared.image_type.ImageType.TheVariants as any
 use Rattle.ca_records.specs.Record.{RecordState}
 use Rattle.ca_wire.specs.Fields.{Fields}
 use Rattle.ca_wire.specs.Messages.{value_reply}
 use Rattle.ca_model.specs.Speech.{Id, In, Ioid, Stored, name_in}
 use Rattle.ca_model.specs.Due.{KnownRecord, Knows, Nothing, Opens, ReadDue, Serves}
-use Rattle.ca_model.specs.Faults.{read_shown, type_of}
+use Rattle.ca_model.specs.Faults.{read_shown}
+use Rattle.ca_model.specs.Images.{image_of, image_type_of}
 use Rattle.ca_model.specs.History.{Circuit, Entry, Sent, Told, Added, Removed, Reply}
 use Rattle.ca_model.specs.Channels.{Has, IsOpen, IsReply, before}
 use Rattle.ca_model.specs.Headline.{Answered, AnswersOwn}
@@ -129,22 +130,25 @@ serves-temp k knew c =
     let is : IsRecordOf temp_and_setp temp_name (Some c.known) = subst (λ (o : Option KnownRecord). IsRecordOf temp_and_setp temp_name o) there (knew.records temp_name) in
     is-temp c.known (subst (λ (r : ℕ). IsNow temp_and_setp r c.known) (its-temp 2 is.0 is.1) is.2)
 
+abbrev plain_long : ImageType
+plain_long = any.Data (record { base = base.Long; form = form.Plain })
+
 abbrev of-ok : Result Elements Refusal → Elements
 of-ok (Ok e) = e
 of-ok (Err r) = longs []
 
 -- And the value of a reply is 21.
-its-value : (s : RecordState) (t : DataType) (e : Elements) → s ≡ temp → type_of 5 ≡ Some t → read_shown s (reading 0 7).message t ≡ Ok e
-    → fourth (value_reply (reading 0 7).message (count_of e) (image t e s.meta)).payload ≡ 21
+its-value : (s : RecordState) (t : ImageType) (e : Elements) → s ≡ temp → image_type_of 5 ≡ Some t → read_shown s (reading 0 7).message t ≡ Ok e
+    → fourth (value_reply (reading 0 7).message (count_of e) (image_of s.value t e s.meta)).payload ≡ 21
 unfolding E.signed_bytes_4
 its-value s t e is typed showed =
-    let plain : t ≡ record { base = base.Long; form = form.Plain } = sym (some_is _ t typed) in
-    let here : read_shown temp (reading 0 7).message (record { base = base.Long; form = form.Plain }) ≡ Ok e =
-    subst (λ (u : DataType). read_shown temp (reading 0 7).message u ≡ Ok e) plain (subst (λ (r : RecordState). read_shown r (reading 0 7).message t ≡ Ok e) is showed) in
+    let plain : t ≡ plain_long = sym (some_is _ t typed) in
+    let here : read_shown temp (reading 0 7).message plain_long ≡ Ok e =
+    subst (λ (u : ImageType). read_shown temp (reading 0 7).message u ≡ Ok e) plain (subst (λ (r : RecordState). read_shown r (reading 0 7).message t ≡ Ok e) is showed) in
     let so : longs (pos 21 ∷ []) ≡ e = ap of-ok here in
-    subst (λ (r : RecordState). fourth (value_reply (reading 0 7).message (count_of e) (image t e r.meta)).payload ≡ 21) (sym is) (
-    subst (λ (u : DataType). fourth (value_reply (reading 0 7).message (count_of e) (image u e temp.meta)).payload ≡ 21) (sym plain) (
-    subst (λ (f : Elements). fourth (value_reply (reading 0 7).message (count_of f) (image (record { base = base.Long; form = form.Plain }) f temp.meta)).payload ≡ 21) so refl))
+    subst (λ (r : RecordState). fourth (value_reply (reading 0 7).message (count_of e) (image_of r.value t e r.meta)).payload ≡ 21) (sym is) (
+    subst (λ (u : ImageType). fourth (value_reply (reading 0 7).message (count_of e) (image_of temp.value u e temp.meta)).payload ≡ 21) (sym plain) (
+    subst (λ (f : Elements). fourth (value_reply (reading 0 7).message (count_of f) (image_of temp.value plain_long f temp.meta)).payload ≡ 21) so refl))
 
 pub never-of-another : UnsafeAsDue (answered_by_value 5)
 never-of-another s =
@@ -225,7 +229,7 @@ unfolding E.signed_bytes_4
 shows = (
   record { channel = temp_channel false; open_there = (0, refl); under = refl; there = refl; known = temp_now false 21 false; named = refl },
   refl,
-  inr (refl, (record { base = base.Long; form = form.Plain }, longs (pos 21 ∷ []), refl, refl, refl)),
+  inr (refl, (plain_long, longs (pos 21 ∷ []), refl, refl, refl)),
 )
 
 answered : TrueDue 0 (known 21) temp_and_setp (reading 0 7).message ((value_told 21).message ∷ []) None []

@@ -7,6 +7,7 @@ use Rattle.ca_dbr.specs.declared.value.Outcome.{Outcome}
 use Rattle.ca_dbr.specs.declared.value.Outcome.TheVariants as outcome
 use Rattle.ca_dbr.specs.declared.data_type.BaseType.TheVariants as base
 use Rattle.ca_dbr.specs.declared.data_type.Form.TheVariants as form
+use Rattle.ca_display.specs.declared.image_type.ImageType.TheVariants as any
 use Rattle.ca_dbr.specs.Elements as E
 use Rattle.ca_model.specs.Speech.{In, Stored}
 use Rattle.ca_wire.specs.Messages.{mask_in}
@@ -271,11 +272,11 @@ told-at j k a t at place cause =
 
 shows-21 : Shows (adding 0 9).message (long 21) (first_update 1 21).message
 unfolding E.signed_bytes_4
-shows-21 = (record { base = base.Long; form = form.Plain }, refl, refl)
+shows-21 = (any.Data (record { base = base.Long; form = form.Plain }), refl, refl)
 
 shows-5 : Shows (adding 0 9).message (long 5) (first_update 4 5).message
 unfolding E.signed_bytes_4
-shows-5 = (record { base = base.Long; form = form.Plain }, refl, refl)
+shows-5 = (any.Data (record { base = base.Long; form = form.Plain }), refl, refl)
 
 follows-1 : Follows TrueDue Shows Means reopened reopened_entries 1 0 (adding 0 9) (long 21 ∷ [])
 follows-1 = record {

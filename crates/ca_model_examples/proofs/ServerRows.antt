@@ -1,10 +1,11 @@
 -- The worked rows, computed.
 use Rattle.std.proofs.Common.{refl}
 use Rattle.std.specs.Fmt.{digits}
+use lib.Ieee.{of_bits, of_int, to_bits, to_signed}
 use Rattle.ca_dbr.specs.Elements.{byte_1, bytes_2, bytes_4, bytes_8, signed_bytes_2, signed_bytes_4, string_bytes}
 use Rattle.ca_wire.specs.Header.{extended_header, header_spelling, number16, number32, short_header}
 use Rattle.ca_wire.specs.Message.{spelling}
-use Rattle.ca_model_examples.specs.ServerRows.{BigSubscription, CancelSpelled, CancelledEntries, ClearSpelled, Converts, CreationSpelled, DisconnectSpelled, EarlyPutFaults, EarlyPutFaultsInOrder, EchoSpelled, ErrorSpelled, FinishedPuts, GainAsTimeDouble, LatePutFaults, LatePutFaultsInOrder, ManyPosts, MasksShareBits, NoCid, NotFoundSpelled, PausedPosts, PausedTakes, PutSpelled, ReadFaults, ReadFaultsInOrder, ReadSpelled, ReadsUpToTheLimit, RightsAreBits, RulesDecide, SearchSpelled, ShortSubscription, SixteenWait, SubscriptionFaults, SubscriptionFaultsInOrder, TempAsStatusChar, TempAsString, TempAsTimeLong, UpdateSpelled, VersionSpelled, WaitingAfterCut, WaveAsChars, WrittenAsTimeLong}
+use Rattle.ca_model_examples.specs.ServerRows.{BigSubscription, CancelSpelled, CancelledEntries, ClearSpelled, Converts, CreationSpelled, DisconnectSpelled, DisplayReadFaults, DisplaySubscriptionFaults, DisplayUpdateSpelled, EarlyPutFaults, EarlyPutFaultsInOrder, EchoSpelled, ErrorSpelled, FinishedPuts, GainAsTimeDouble, LatePutFaults, LatePutFaultsInOrder, ManyPosts, MasksShareBits, NoCid, NotFoundSpelled, PausedPosts, PausedTakes, PutSpelled, ReadFaults, ReadFaultsInOrder, ReadSpelled, ReadsUpToTheLimit, RightsAreBits, RulesDecide, SearchSpelled, ShortSubscription, SixteenWait, SubscriptionFaults, SubscriptionFaultsInOrder, TempAsStatusChar, TempAsString, TempAsTimeLong, UpdateSpelled, VersionSpelled, VoltAsControlLong, VoltAsDouble, VoltAsGraphicLong, VoltAsString, WaitingAfterCut, WaveAsChars, WrittenAsTimeLong}
 
 pub temp-as-time-long : TempAsTimeLong
 unfolding byte_1 bytes_2 bytes_4 bytes_8 signed_bytes_2 signed_bytes_4 string_bytes digits
@@ -30,6 +31,22 @@ pub written-as-time-long : WrittenAsTimeLong
 unfolding byte_1 bytes_2 bytes_4 bytes_8 signed_bytes_2 signed_bytes_4 string_bytes digits
 written-as-time-long = refl
 
+pub volt-as-graphic-long : VoltAsGraphicLong
+unfolding byte_1 bytes_2 bytes_4 bytes_8 signed_bytes_2 signed_bytes_4 string_bytes digits of_bits to_signed
+volt-as-graphic-long = refl
+
+pub volt-as-control-long : VoltAsControlLong
+unfolding byte_1 bytes_2 bytes_4 bytes_8 signed_bytes_2 signed_bytes_4 string_bytes digits of_bits to_signed
+volt-as-control-long = refl
+
+pub volt-as-double : VoltAsDouble
+unfolding byte_1 bytes_2 bytes_4 bytes_8 signed_bytes_2 signed_bytes_4 string_bytes digits of_int to_bits
+volt-as-double = refl
+
+pub volt-as-string : VoltAsString
+unfolding byte_1 bytes_2 bytes_4 bytes_8 signed_bytes_2 signed_bytes_4 string_bytes digits
+volt-as-string = refl
+
 pub converts : Converts
 converts = (refl, refl, refl, refl, refl)
 
@@ -38,6 +55,9 @@ read-faults = (refl, refl, refl, refl, refl, refl, refl)
 
 pub read-faults-in-order : ReadFaultsInOrder
 read-faults-in-order = (refl, refl, refl, refl)
+
+pub display-read-faults : DisplayReadFaults
+display-read-faults = (refl, refl, refl, refl, refl, refl, refl)
 
 pub reads-up-to-the-limit : ReadsUpToTheLimit
 reads-up-to-the-limit = (refl, refl)
@@ -65,6 +85,10 @@ short-subscription = refl
 pub subscription-faults-in-order : SubscriptionFaultsInOrder
 unfolding number16
 subscription-faults-in-order = (refl, refl, refl, refl, refl)
+
+pub display-subscription-faults : DisplaySubscriptionFaults
+unfolding number16
+display-subscription-faults = (refl, refl, refl, refl)
 
 pub big-subscription : BigSubscription
 unfolding number16
@@ -107,6 +131,10 @@ put-spelled = refl
 pub update-spelled : UpdateSpelled
 unfolding bytes_2 bytes_4 signed_bytes_4 spelling header_spelling short_header extended_header number16 number32
 update-spelled = (refl, refl)
+
+pub display-update-spelled : DisplayUpdateSpelled
+unfolding bytes_2 bytes_4 signed_bytes_4 spelling header_spelling short_header extended_header number16 number32 of_bits to_signed
+display-update-spelled = refl
 
 pub cancel-spelled : CancelSpelled
 unfolding bytes_2 bytes_4 signed_bytes_4 spelling header_spelling short_header extended_header number16 number32

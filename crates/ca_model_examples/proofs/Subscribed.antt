@@ -3,15 +3,15 @@ use Rattle.std.proofs.Common.{◌≡◌, ℕ, suc, ◌<◌, ◌≤◌, ◌⊎◌
 use Rattle.ca_text.proofs.Places.{At-within, some_is}
 use Rattle.std.specs.Prelude.{None, take}
 use Rattle.ca_text.specs.Place.{At}
-use Rattle.ca_dbr.specs.Elements.{Elements, longs, base_of}
 use Rattle.ca_dbr.specs.declared.value.Outcome.{Outcome}
 use Rattle.ca_records.specs.Record.{RecordState}
 use Rattle.ca_wire.specs.Fields.{Fields}
 use Rattle.ca_model.specs.Speech.{In, Stored, Id}
+use Rattle.ca_model.specs.Images.{shown_in}
 use Rattle.ca_model.specs.History.{Create, On, Intent, Sent, Told, Step, Circuit, Entry, Line, World, Added, Removed, Opened, Subscribe, Update, Updated, Cause, GaveUp, Reply, Removal}
 use Rattle.ca_model.specs.Channels.{before}
 use Rattle.ca_model_examples.specs.Worlds.{adding, reply, created_told, AnyDue, creating, long, step, temp, temp_name, world}
-use Rattle.ca_model_examples.specs.Parts.{FieldOf, Part, Holds, BreaksOnly, IsSafeNow, InCircuit}
+use Rattle.ca_model_examples.specs.Parts.{FieldOf, Part, Holds, BreaksOnly, IsSafeNow}
 use Rattle.ca_model_examples.specs.Parts as part
 use Rattle.ca_model_examples.specs.Unsafe.{both_updated, opened, posted, saw, subscribed, subscriber, temp_removed, temp_there, updated}
 use Rattle.ca_model_examples.proofs.Lists.{Each, each-at, one-at, two-at}
@@ -34,10 +34,10 @@ use Rattle.ca_wire.specs.Messages.{mask_in}
 use Rattle.ca_wire.specs.Header.{number16}
 use Rattle.std.specs.Prelude.{slice_index_or}
 use Rattle.ca_dbr.specs.declared.data_type.BaseType.TheVariants as base
-use Rattle.ca_dbr.specs.declared.data_type.DataType.{DataType}
 use Rattle.ca_dbr.specs.declared.data_type.Form.TheVariants as form
 use Rattle.ca_dbr.specs.Elements as E
-use Rattle.ca_dbr.specs.Shown.{shown}
+use Rattle.ca_display.specs.declared.image_type.ImageType.{ImageType}
+use Rattle.ca_display.specs.declared.image_type.ImageType.TheVariants as any
 
 -- the circuits, for short
 abbrev followed : Circuit
@@ -104,19 +104,22 @@ posts-are = refl
 marked : (P : ℕ → ℕ → Type 0) (c : Circuit) → Each (λ (i : ℕ) (z : ℕ × Cause). (a : ℕ) → z ≡ (1, Update a) → P i a) (updates c) → (i a : ℕ) → At (updates c) i (1, Update a) → P i a
 marked P c all i a at = each-at (λ (k : ℕ) (z : ℕ × Cause). (b : ℕ) → z ≡ (1, Update b) → P k b) (updates c) all i _ at a refl
 
+abbrev plain_long : ImageType
+plain_long = any.Data (record { base = base.Long; form = form.Plain })
+
 pub shows-21 : Shows (adding 0 9).message (long 21) (updated 0 21).message
 unfolding E.signed_bytes_4
-shows-21 = (record { base = base.Long; form = form.Plain }, refl, refl)
+shows-21 = (plain_long, refl, refl)
 
 pub shows-22 : Shows (adding 0 9).message (long 22) (updated 1 22).message
 unfolding E.signed_bytes_4
-shows-22 = (record { base = base.Long; form = form.Plain }, refl, refl)
+shows-22 = (plain_long, refl, refl)
 
 not-22 : Shows (adding 0 9).message (long 21) (updated 0 22).message → ⊥
 unfolding E.signed_bytes_4
 not-22 shows =
-    let typed : record { base = base.Long; form = form.Plain } ≡ shows.0 = some_is _ shows.0 shows.1 in
-    let m : (updated 0 22).message ≡ (updated 0 21).message = subst (λ (t : DataType). (updated 0 22).message ≡ update_in (record { sid = 5; id = 9; data_type = 5; count = 1 }) (long 21) t (shown (long 21).value 1 t.base)) (sym typed) shows.2 in
+    let typed : plain_long ≡ shows.0 = some_is _ shows.0 shows.1 in
+    let m : (updated 0 22).message ≡ (updated 0 21).message = subst (λ (t : ImageType). (updated 0 22).message ≡ update_in (record { sid = 5; id = 9; data_type = 5; count = 1 }) (long 21) t (shown_in (long 21).value 1 t)) (sym typed) shows.2 in
     let e : 22 ≡ 21 = ap (λ (f : Fields). slice_index_or f.payload 3 0) m in
     omega (arith, e)
 

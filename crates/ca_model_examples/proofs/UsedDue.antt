@@ -5,6 +5,7 @@ use Rattle.std.proofs.Math.Facts.{sfits_lit}
 use Rattle.ca_text.specs.Place.{At}
 use Rattle.ca_dbr.specs.declared.data_type.BaseType.TheVariants as base
 use Rattle.ca_dbr.specs.declared.data_type.Form.TheVariants as form
+use Rattle.ca_display.specs.declared.image_type.ImageType.TheVariants as any
 use Rattle.ca_dbr.specs.Elements as E
 use Rattle.ca_dbr.specs.Elements.{longs}
 use Rattle.ca_model.specs.Due.{Adds, Applies, Nothing, Opens, PutDue, ReadDue, subscription_in}
@@ -105,7 +106,7 @@ takes = (
 
 shows : ReadDue (knows (Some (temp_now false 22 false)) true (temp_channel false ∷ [])) (reading 1 7).message (value_told ∷ []) Nothing
 unfolding E.signed_bytes_4
-shows = (serves (temp_now false 22 false), refl, inr (refl, (record { base = base.Long; form = form.Plain }, longs (pos 22 ∷ []), refl, refl, refl)))
+shows = (serves (temp_now false 22 false), refl, inr (refl, (any.Data (record { base = base.Long; form = form.Plain }), longs (pos 22 ∷ []), refl, refl, refl)))
 
 pub used-put : TrueDue 0 (before used 1 (step 2 1 2)) (logged 1) (putting 0 8 22).message ((put_told 1 8 22).message ∷ []) None (Applied 0 1 0 (long 22) false ∷ [])
 used-put = (

@@ -5,6 +5,7 @@ use Rattle.ca_text.specs.Place.{At}
 use Rattle.ca_dbr.specs.declared.value.Outcome.{Outcome}
 use Rattle.ca_dbr.specs.declared.data_type.BaseType.TheVariants as base
 use Rattle.ca_dbr.specs.declared.data_type.Form.TheVariants as form
+use Rattle.ca_display.specs.declared.image_type.ImageType.TheVariants as any
 use Rattle.ca_dbr.specs.Elements as E
 use Rattle.ca_wire.specs.Fields.{Fields}
 use Rattle.ca_wire.specs.Messages.{mask_in}
@@ -79,7 +80,7 @@ told-at j a t at place cause =
 
 shows-22 : Shows (adding 0 9).message (long 22) update_told
 unfolding E.signed_bytes_4
-shows-22 = (record { base = base.Long; form = form.Plain }, refl, refl)
+shows-22 = (any.Data (record { base = base.Long; form = form.Plain }), refl, refl)
 
 module _
     (Due : ℕ → Circuit → List Entry → Fields → List Fields → Option Fields → List Entry → Type 0) where

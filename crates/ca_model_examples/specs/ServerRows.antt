@@ -8,12 +8,10 @@ use Rattle.ca_text.specs.declared.refusal.Refusal.{Refusal}
 use Rattle.ca_text.specs.declared.refusal.Refusal.TheVariants as refusal
 use Rattle.ca_text.specs.Status.{bad_count}
 use Rattle.ca_dbr.specs.declared.data_type.BaseType.TheVariants as base
-use Rattle.ca_dbr.specs.declared.data_type.DataType.{DataType}
-use Rattle.ca_dbr.specs.declared.value.Meta.{Meta}
 use Rattle.ca_dbr.specs.Conversion.{converted}
 use Rattle.ca_dbr.specs.Elements.{Elements, displayed, doubles, longs, strings}
 use Rattle.ca_dbr.specs.Held.{kind_of}
-use Rattle.ca_dbr.specs.Image.{image}
+use Rattle.ca_display.specs.declared.image_type.ImageType.{ImageType}
 use Rattle.ca_records.specs.Faults.{late_put_fault}
 use Rattle.ca_records.specs.Given.{given_as}
 use Rattle.ca_records.specs.declared.puts.Put.{Put}
@@ -32,8 +30,8 @@ use Rattle.ca_wire.specs.Messages.{created_reply, disconnect, error_reply, event
 use Rattle.ca_wire.specs.Messages.{event_cancel_request, failed_reply, no_cid, not_found_reply}
 use Rattle.ca_wire.specs.Messages.{put_request, read_request, rights_reply, search_reply}
 use Rattle.ca_wire.specs.Messages.{search_request, status_reply, value_reply, version_reply}
-use Rattle.ca_model.specs.Faults.{base_type_of, early_put_fault, read_fault, read_shown}
-use Rattle.ca_model.specs.Faults.{subscription_fault, type_of}
+use Rattle.ca_model.specs.Faults.{early_put_fault, read_fault, read_shown, subscription_fault}
+use Rattle.ca_model.specs.Images.{base_type_of, image_of, image_type_of}
 use Rattle.ca_model.specs.Speech.{share_bit}
 use Rattle.ca_model.specs.Updates.{update_in}
 use Rattle.ca_model_examples.specs.Worlds.{temp, temp_name}
@@ -79,6 +77,27 @@ slow_name = 83 ∷ 76 ∷ 79 ∷ 87 ∷ []
 abbrev pub slow : RecordState
 slow = record { name = slow_name; count = 1; slow = true; value = longs (pos 0 ∷ []); meta = unset }
 
+-- 21 volts, as a LONG with a precision of 2: on a display from -10 to 100, a warning below 10 and
+-- above 80, an alarm below 5 and above 90, and from 1 to 60 for control
+abbrev pub volt : RecordState
+volt = record {
+  name = 86 ∷ 79 ∷ 76 ∷ 84 ∷ [];
+  count = 1;
+  slow = false;
+  value =
+      displayed
+      (record {
+        units = 86 ∷ replicate 7 0;
+        precision = pos 2;
+        limits =
+            4636737291354636288 ∷ 13845191154443747328 ∷ 4636033603912859648 ∷ 4635329916471083008
+            ∷ 4621819117588971520 ∷ 4617315517961601024 ∷ 4633641066610819072 ∷ one ∷ [];
+        states = [];
+      })
+      (longs (pos 21 ∷ []));
+  meta = unset;
+}
+
 abbrev pub big : RecordState
 big = record {
   name = 66 ∷ 73 ∷ 71 ∷ [];
@@ -101,17 +120,17 @@ add_of data_type count mask = event_add_request (on_first data_type count) mask
 
 -- ---- images
 
-abbrev pub image_in : DataType → Meta → Result Elements Refusal → List ℕ
-image_in t m (Ok e) = image t e m
-image_in t m (Err r) = []
+abbrev pub image_if : RecordState → ImageType → Result Elements Refusal → List ℕ
+image_if r t (Ok e) = image_of r.value t e r.meta
+image_if r t (Err fault) = []
 
-abbrev pub image_of : RecordState → Fields → Option DataType → List ℕ
-image_of r m (Some t) = image_in t r.meta (read_shown r m t)
-image_of r m None = []
+abbrev pub read_image : RecordState → Fields → Option ImageType → List ℕ
+read_image r m (Some t) = image_if r t (read_shown r m t)
+read_image r m None = []
 
 -- what a read of n elements in the type of this number shows
 abbrev pub shown_as : (number : ℕ) → RecordState → (count : ℕ) → List ℕ
-shown_as number r count = image_of r (read_of number count) (type_of number)
+shown_as number r count = read_image r (read_of number count) (image_type_of number)
 
 -- TEMP is 21: as TIME_LONG, as STRING, and as STS_CHAR
 abbrev pub TempAsTimeLong : Type 0
@@ -137,6 +156,27 @@ abbrev pub WrittenAsTimeLong : Type 0
 WrittenAsTimeLong =
     shown_as 19 (record temp { meta = written_meta (record { seconds = 258; nanos = 3 }) }) 1
     ≡ 0 ∷ 0 ∷ 0 ∷ 0 ∷ 0 ∷ 0 ∷ 1 ∷ 2 ∷ 0 ∷ 0 ∷ 0 ∷ 3 ∷ 0 ∷ 0 ∷ 0 ∷ 21 ∷ []
+
+-- VOLT is 21 V: as GR_LONG, with its unit and six limits; as CTRL_LONG, with the two limits for
+-- control after these; as DOUBLE; and as STRING
+abbrev pub VoltAsGraphicLong : Type 0
+VoltAsGraphicLong =
+    shown_as 26 volt 1
+    ≡ 0 ∷ 0 ∷ 0 ∷ 0 ∷ 86 ∷ 0 ∷ 0 ∷ 0 ∷ 0 ∷ 0 ∷ 0 ∷ 0 ∷ 0 ∷ 0 ∷ 0 ∷ 100 ∷ 255 ∷ 255 ∷ 255 ∷ 246
+    ∷ 0 ∷ 0 ∷ 0 ∷ 90 ∷ 0 ∷ 0 ∷ 0 ∷ 80 ∷ 0 ∷ 0 ∷ 0 ∷ 10 ∷ 0 ∷ 0 ∷ 0 ∷ 5 ∷ 0 ∷ 0 ∷ 0 ∷ 21 ∷ []
+
+abbrev pub VoltAsControlLong : Type 0
+VoltAsControlLong =
+    shown_as 33 volt 1
+    ≡ 0 ∷ 0 ∷ 0 ∷ 0 ∷ 86 ∷ 0 ∷ 0 ∷ 0 ∷ 0 ∷ 0 ∷ 0 ∷ 0 ∷ 0 ∷ 0 ∷ 0 ∷ 100 ∷ 255 ∷ 255 ∷ 255 ∷ 246
+    ∷ 0 ∷ 0 ∷ 0 ∷ 90 ∷ 0 ∷ 0 ∷ 0 ∷ 80 ∷ 0 ∷ 0 ∷ 0 ∷ 10 ∷ 0 ∷ 0 ∷ 0 ∷ 5 ∷ 0 ∷ 0 ∷ 0 ∷ 60
+    ∷ 0 ∷ 0 ∷ 0 ∷ 1 ∷ 0 ∷ 0 ∷ 0 ∷ 21 ∷ []
+
+abbrev pub VoltAsDouble : Type 0
+VoltAsDouble = shown_as 6 volt 1 ≡ 64 ∷ 53 ∷ 0 ∷ 0 ∷ 0 ∷ 0 ∷ 0 ∷ 0 ∷ []
+
+abbrev pub VoltAsString : Type 0
+VoltAsString = shown_as 0 volt 1 ≡ 50 ∷ 49 ∷ replicate 38 0
 
 -- ---- conversions
 
@@ -176,7 +216,7 @@ Converts =
 
 abbrev pub fault_of : RecordState → (rights data_type count : ℕ) → Option ℕ
 fault_of r rights data_type count =
-    read_fault r rights (read_of data_type count) (type_of data_type)
+    read_fault r rights (read_of data_type count) (image_type_of data_type)
 
 -- type 21 BADTYPE, no right NORDACCESS, 70,000 elements of TEMP BADCOUNT, TEMP as FLOAT NOCONVERT,
 -- NOTE as LONG GETFAIL
@@ -193,6 +233,15 @@ abbrev pub ReadFaultsInOrder : Type 0
 ReadFaultsInOrder =
     (fault_of temp 0 34 1 ≡ Some 114) × (fault_of temp 0 5 70000 ≡ Some 368)
     × (fault_of temp 1 2 2 ≡ Some 176) × (fault_of note 1 5 2 ≡ Some 176)
+
+-- VOLT has the types 21 to 34, and is shown as FLOAT; type 35 is BADTYPE, also without a right;
+-- CTRL_DOUBLE without a right is NORDACCESS, and two elements as GR_LONG are BADCOUNT
+abbrev pub DisplayReadFaults : Type 0
+DisplayReadFaults =
+    (fault_of volt 3 21 1 ≡ None) × (fault_of volt 3 34 1 ≡ None)
+    × (fault_of volt 3 35 1 ≡ Some 114) × (fault_of volt 0 35 1 ≡ Some 114)
+    × (fault_of volt 3 2 1 ≡ None) × (fault_of volt 2 34 1 ≡ Some 368)
+    × (fault_of volt 3 26 2 ≡ Some 176)
 
 -- 419,430 STRINGs are 16,777,200 bytes, and one more is over the payload limit
 abbrev pub ReadsUpToTheLimit : Type 0
@@ -242,7 +291,8 @@ LatePutFaultsInOrder = late_put_fault gain true 16 text_42 ≡ Some 400
 abbrev pub adding_fault : RecordState → (rights : ℕ) → (in_use : Bool) → (others : ℕ)
     → (data_type count mask : ℕ) → Option ℕ
 adding_fault r rights in_use others data_type count mask =
-    subscription_fault r rights in_use others (add_of data_type count mask) (type_of data_type)
+    subscription_fault r rights in_use others (add_of data_type count mask)
+    (image_type_of data_type)
 
 -- type 21 BADTYPE, no right NORDACCESS, no mask bit ADDFAIL, an id in use ADDFAIL, two elements of
 -- TEMP BADCOUNT, TEMP as FLOAT NOCONVERT, the 289th subscription ADDFAIL; NOTE as LONG is none,
@@ -261,7 +311,7 @@ SubscriptionFaults =
 abbrev pub ShortSubscription : Type 0
 ShortSubscription =
     subscription_fault temp 3 false 0 (record (add_of 5 1 1) { payload = replicate 8 1 })
-    (type_of 5) ≡ Some 168
+    (image_type_of 5) ≡ Some 168
 
 -- type 34 and no right; no right and no mask bit; no mask bit and two elements; two elements as
 -- FLOAT; the 289th as FLOAT
@@ -271,6 +321,14 @@ SubscriptionFaultsInOrder =
     × (adding_fault temp 1 false 0 5 2 0 ≡ Some 168)
     × (adding_fault temp 1 false 0 2 2 1 ≡ Some 176)
     × (adding_fault temp 1 false 288 2 1 1 ≡ Some 400)
+
+-- VOLT as CTRL_DOUBLE and as FLOAT is none; type 35 is BADTYPE, and CTRL_DOUBLE without a right
+-- NORDACCESS
+abbrev pub DisplaySubscriptionFaults : Type 0
+DisplaySubscriptionFaults =
+    (adding_fault volt 3 false 0 34 1 1 ≡ None) × (adding_fault volt 3 false 0 2 1 1 ≡ None)
+    × (adding_fault volt 3 false 0 35 1 1 ≡ Some 114)
+    × (adding_fault volt 2 false 0 34 1 1 ≡ Some 368)
 
 -- 262,144 DOUBLEs of BIG are none, and one more is over its greatest count
 abbrev pub BigSubscription : Type 0
@@ -366,18 +424,26 @@ PutSpelled =
     ≡ 0 ∷ 19 ∷ 0 ∷ 0 ∷ 0 ∷ 5 ∷ 0 ∷ 1 ∷ 0 ∷ 0 ∷ 0 ∷ 1 ∷ 0 ∷ 1 ∷ 0 ∷ 0 ∷ []
 
 -- the first update of TEMP, and of NOTE as LONG, which is GETFAIL with zero bytes
-abbrev pub update_of : Wanted → RecordState → Option DataType → Fields
+abbrev pub update_of : Wanted → RecordState → Option ImageType → Fields
 update_of w r (Some t) =
     update_in w (record { value = r.value; meta = r.meta }) t (read_shown r (read_request w) t)
 update_of w r None = header_only command.Error
 
 abbrev pub UpdateSpelled : Type 0
 UpdateSpelled =
-    (spelling (update_of (on_first 5 1) temp (type_of 5))
+    (spelling (update_of (on_first 5 1) temp (image_type_of 5))
     ≡ 0 ∷ 1 ∷ 0 ∷ 8 ∷ 0 ∷ 5 ∷ 0 ∷ 1 ∷ 0 ∷ 0 ∷ 0 ∷ 1 ∷ 0 ∷ 1 ∷ 0 ∷ 0 ∷ 0 ∷ 0 ∷ 0 ∷ 21 ∷ 0 ∷ 0 ∷ 0
     ∷ 0 ∷ [])
-    × (spelling (update_of (on_first 5 1) note (type_of 5))
+    × (spelling (update_of (on_first 5 1) note (image_type_of 5))
     ≡ 0 ∷ 1 ∷ 0 ∷ 8 ∷ 0 ∷ 5 ∷ 0 ∷ 1 ∷ 0 ∷ 0 ∷ 0 ∷ 152 ∷ 0 ∷ 1 ∷ 0 ∷ 0 ∷ replicate 8 0)
+
+-- the first update of VOLT as GR_LONG
+abbrev pub DisplayUpdateSpelled : Type 0
+DisplayUpdateSpelled =
+    spelling (update_of (on_first 26 1) volt (image_type_of 26))
+    ≡ 0 ∷ 1 ∷ 0 ∷ 40 ∷ 0 ∷ 26 ∷ 0 ∷ 1 ∷ 0 ∷ 0 ∷ 0 ∷ 1 ∷ 0 ∷ 1 ∷ 0 ∷ 0 ∷ 0 ∷ 0 ∷ 0 ∷ 0 ∷ 86 ∷ 0 ∷ 0
+    ∷ 0 ∷ 0 ∷ 0 ∷ 0 ∷ 0 ∷ 0 ∷ 0 ∷ 0 ∷ 100 ∷ 255 ∷ 255 ∷ 255 ∷ 246 ∷ 0 ∷ 0 ∷ 0 ∷ 90 ∷ 0 ∷ 0 ∷ 0
+    ∷ 80 ∷ 0 ∷ 0 ∷ 0 ∷ 10 ∷ 0 ∷ 0 ∷ 0 ∷ 5 ∷ 0 ∷ 0 ∷ 0 ∷ 21 ∷ []
 
 abbrev pub CancelSpelled : Type 0
 CancelSpelled =

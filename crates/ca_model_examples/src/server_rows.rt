@@ -3,6 +3,8 @@
 ghost use Rattle.ca_model_examples.specs.ServerRows.{BigSubscription, CancelSpelled};
 ghost use Rattle.ca_model_examples.specs.ServerRows.{CancelledEntries, ClearSpelled, Converts};
 ghost use Rattle.ca_model_examples.specs.ServerRows.{CreationSpelled, DisconnectSpelled};
+ghost use Rattle.ca_model_examples.specs.ServerRows.{DisplayReadFaults, DisplaySubscriptionFaults};
+ghost use Rattle.ca_model_examples.specs.ServerRows.{DisplayUpdateSpelled};
 ghost use Rattle.ca_model_examples.specs.ServerRows.{EarlyPutFaults, EarlyPutFaultsInOrder};
 ghost use Rattle.ca_model_examples.specs.ServerRows.{EchoSpelled, ErrorSpelled, FinishedPuts};
 ghost use Rattle.ca_model_examples.specs.ServerRows.{GainAsTimeDouble, LatePutFaults};
@@ -15,6 +17,8 @@ ghost use Rattle.ca_model_examples.specs.ServerRows.{SearchSpelled, ShortSubscri
 ghost use Rattle.ca_model_examples.specs.ServerRows.{SubscriptionFaults, SubscriptionFaultsInOrder};
 ghost use Rattle.ca_model_examples.specs.ServerRows.{TempAsStatusChar, TempAsString};
 ghost use Rattle.ca_model_examples.specs.ServerRows.{TempAsTimeLong, UpdateSpelled, VersionSpelled};
+ghost use Rattle.ca_model_examples.specs.ServerRows.{VoltAsControlLong, VoltAsDouble};
+ghost use Rattle.ca_model_examples.specs.ServerRows.{VoltAsGraphicLong, VoltAsString};
 ghost use Rattle.ca_model_examples.specs.ServerRows.{WaitingAfterCut, WaveAsChars};
 ghost use Rattle.ca_model_examples.specs.ServerRows.{WrittenAsTimeLong};
 
@@ -30,6 +34,15 @@ pub fn images_are_as_worked()
     ensures written_as_time_long { WrittenAsTimeLong }
 {}
 
+/// Images of a record with display data: VOLT, which is 21 V, as GR_LONG, CTRL_LONG, DOUBLE and
+/// STRING.
+pub fn display_images_are_as_worked()
+    ensures volt_as_graphic_long { VoltAsGraphicLong }
+    ensures volt_as_control_long { VoltAsControlLong }
+    ensures volt_as_double { VoltAsDouble }
+    ensures volt_as_string { VoltAsString }
+{}
+
 /// Conversions of texts and numbers.
 pub fn conversions_are_as_worked()
     ensures { Converts }
@@ -39,6 +52,7 @@ pub fn conversions_are_as_worked()
 pub fn request_faults_are_as_worked()
     ensures reads { ReadFaults }
     ensures reads_in_order { ReadFaultsInOrder }
+    ensures display_reads { DisplayReadFaults }
     ensures reads_up_to_the_limit { ReadsUpToTheLimit }
     ensures early_puts { EarlyPutFaults }
     ensures early_puts_in_order { EarlyPutFaultsInOrder }
@@ -51,6 +65,7 @@ pub fn subscription_faults_are_as_worked()
     ensures faults { SubscriptionFaults }
     ensures short { ShortSubscription }
     ensures in_order { SubscriptionFaultsInOrder }
+    ensures display { DisplaySubscriptionFaults }
     ensures big { BigSubscription }
 {}
 
@@ -74,6 +89,7 @@ pub fn spelled_replies_are_as_worked()
     ensures read { ReadSpelled }
     ensures put { PutSpelled }
     ensures update { UpdateSpelled }
+    ensures display_update { DisplayUpdateSpelled }
     ensures cancel { CancelSpelled }
     ensures clear { ClearSpelled }
     ensures error { ErrorSpelled }

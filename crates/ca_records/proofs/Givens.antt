@@ -7,20 +7,13 @@ use Rattle.ca_dbr.specs.Display.{DisplayData, IsData}
 use Rattle.ca_dbr.specs.Elements.{Elements, strings, ints, floats, enums, chars, longs, doubles, displayed, elements, base_of, count_of, IsValue}
 use Rattle.ca_dbr.specs.Conversion.{converted}
 use Rattle.ca_dbr.specs.Held.{IsHeldValue, Kind, bare, display_of, displayed_by, kind_of}
+use Rattle.ca_display.proofs.Holdings.{base_of-shown, count_of-shown}
 use Rattle.ca_dbr.proofs.Helds.{bare-alone, converted-display, count_of-bare, display_of-bare, display_of-elements, display_of-valued, held-valued}
 use Rattle.ca_dbr.proofs.Shows.{converted-based, converted-counted, with_data-made}
 use Rattle.ca_dbr.proofs.Valued.{converted-valued}
 use Rattle.ca_records.specs.Given.{given_as, in_display}
 
 -- ---- with display data, or without
-
-base_of-displayed : (o : Option DisplayData) (e : Elements) → base_of (displayed_by o e) ≡ base_of e
-base_of-displayed None e = refl
-base_of-displayed (Some d) e = refl
-
-count_of-displayed : (o : Option DisplayData) (e : Elements) → count_of (displayed_by o e) ≡ count_of e
-count_of-displayed None e = refl
-count_of-displayed (Some d) e = refl
 
 display_of-displayed : (o : Option DisplayData) (e : Elements) → display_of e ≡ None → display_of (displayed_by o e) ≡ o
 display_of-displayed None e none = none
@@ -47,7 +40,7 @@ kind b o = record { base = b; display = o }
 
 -- elements of a record's type, in place of its own
 pub kind_of-displayed : (e v : Elements) → display_of e ≡ None → base_of e ≡ base_of v → kind_of (displayed_by (display_of v) e) ≡ kind_of v
-kind_of-displayed e v none based = λ i. kind ((base_of-displayed (display_of v) e ∙ based) i) (display_of-displayed (display_of v) e none i)
+kind_of-displayed e v none based = λ i. kind ((base_of-shown (display_of v) e ∙ based) i) (display_of-displayed (display_of v) e none i)
 
 -- both without display data
 pub kind_of-alone : (e v : Elements) → display_of e ≡ None → display_of v ≡ None → base_of e ≡ base_of v → kind_of e ≡ kind_of v
@@ -65,12 +58,12 @@ made-of (Some d) r f h = with_data-made d r f h
 pub given-counted : (e : Elements) (k : Kind) (f : Elements) → given_as e k ≡ Ok f → count_of f ≡ count_of e
 given-counted e k f h =
     let made = made-of k.display (converted (bare e) k.base) f h in
-    ap count_of made.2 ∙ count_of-displayed k.display made.0 ∙ converted-counted (bare e) k.base made.0 made.1 ∙ count_of-bare e
+    ap count_of made.2 ∙ count_of-shown k.display made.0 ∙ converted-counted (bare e) k.base made.0 made.1 ∙ count_of-bare e
 
 pub given-kind : (e : Elements) (k : Kind) (f : Elements) → given_as e k ≡ Ok f → kind_of f ≡ k
 given-kind e k f h =
     let made = made-of k.display (converted (bare e) k.base) f h in
-    let based : base_of f ≡ k.base = ap base_of made.2 ∙ base_of-displayed k.display made.0 ∙ converted-based (bare e) k.base made.0 made.1 in
+    let based : base_of f ≡ k.base = ap base_of made.2 ∙ base_of-shown k.display made.0 ∙ converted-based (bare e) k.base made.0 made.1 in
     let none : display_of made.0 ≡ None = converted-display (bare e) k.base made.0 made.1 ∙ display_of-bare e in
     let shown : display_of f ≡ k.display = ap display_of made.2 ∙ display_of-displayed k.display made.0 none in
     λ i. kind (based i) (shown i)

@@ -1,6 +1,7 @@
 //! Records that are added to a server and removed from it while it runs. A place that became free
 //! is used again.
 ghost use Rattle.std.specs.Prelude.{◌≡◌, ◌≢◌, ◌++◌, ◌∷◌, [], IfOk, None, OnErr, OnOk, length, map};
+ghost use Rattle.ca_dbr.specs.Elements.{elements};
 ghost use Rattle.ca_records.specs.Puts.{new_record, record_named};
 ghost use Rattle.ca_records.specs.Record.{unset};
 ghost use Rattle.ca_records.specs.Store.{Enters, new_store, records_of, with_place};
@@ -12,7 +13,7 @@ use crate::rules::Rule;
 use crate::served_record::ServedRecord;
 use crate::served_records::ServedRecords;
 use crate::slot::RecordSlot;
-use ca_dbr::Meta;
+use ca_dbr::{Meta, Value};
 use ca_display::Held;
 use ca_text::{RecordName, Refusal};
 use std::alloc::AllocError;
@@ -45,24 +46,25 @@ impl ServedRecords {
 
     /// Adds a record of a new name after all others, with metadata of zeros, and reports its place.
     ///
-    /// Refused as NameLength if this is no name, as BadCount if the record may not hold this, and
-    /// then as OutOfMemory. A refusal changes nothing.
+    /// Refused as NameLength if this is no name, as BadCount if the record may not have this value,
+    /// and then as OutOfMemory. A refusal changes nothing.
     pub fn define(
         &mut self,
         name: &[u8],
         count: u32,
         slow: bool,
-        held: Held,
+        value: Value,
     ) -> Result<usize, Refusal>
         requires { record_named (records_of self.old) name.now ≡ None }
         ensures { Defines self.old (record {
           name = name.now;
           count = count;
           slow = slow;
-          value = held;
+          value = elements value;
           meta = unset;
         }) result self.new }
     {
+        let held = Held::of(value);
         check(name, count, &held)?;
         let alloc = *self.slots.allocator();
         let own = Vec::from_slice(alloc, name)?;
@@ -75,8 +77,33 @@ impl ServedRecords {
     /// free last, or a new one.
     ///
     /// Refused as NameLength if this is no name, as RecordExists if it is served, as BadCount if
-    /// the record may not hold this, and then as OutOfMemory. A refusal changes nothing.
-    pub fn add(&mut self, name: &[u8], count: u32, slow: bool, held: Held) -> Result<usize, Refusal>
+    /// the record may not have this value, and then as OutOfMemory. A refusal changes nothing.
+    pub fn add(
+        &mut self,
+        name: &[u8],
+        count: u32,
+        slow: bool,
+        value: Value,
+    ) -> Result<usize, Refusal>
+        ensures { Adds self.old (record {
+          name = name.now;
+          count = count;
+          slow = slow;
+          value = elements value;
+          meta = unset;
+        }) result self.new }
+    {
+        self.add_held(name, count, slow, Held::of(value))
+    }
+
+    /// Adds a record that holds this, as `add`.
+    pub fn add_held(
+        &mut self,
+        name: &[u8],
+        count: u32,
+        slow: bool,
+        held: Held,
+    ) -> Result<usize, Refusal>
         ensures { Adds self.old (record {
           name = name.now;
           count = count;

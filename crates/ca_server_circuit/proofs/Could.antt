@@ -17,11 +17,8 @@ use Rattle.ca_text.proofs.Places.{At-within, some_is}
 use Rattle.ca_arena.specs.declared.handle.Handle.{Handle}
 use Rattle.ca_arena.specs.Arena.{Place, blank, place_at}
 use Rattle.ca_dbr.specs.declared.data_type.BaseType.{BaseType}
-use Rattle.ca_dbr.specs.declared.data_type.DataType.{DataType}
-use Rattle.ca_dbr.specs.Conversion.{converted}
 use Rattle.ca_dbr.specs.Elements.{Elements, count_of}
-use Rattle.ca_dbr.specs.Held.{kind_of}
-use Rattle.ca_dbr.specs.Image.{image}
+use Rattle.ca_dbr.specs.Held.{display_of, kind_of}
 use Rattle.ca_ids.specs.Table.{MayGive, Table, by_wire, has_free, held, is_full, same_handle}
 use Rattle.ca_ids.specs.Wire.{wire_of}
 use Rattle.ca_records.specs.declared.puts.Put.{Put}
@@ -35,9 +32,12 @@ use Rattle.ca_wire.specs.Fields.{Fields}
 use Rattle.ca_wire.specs.Messages.{header_only, cancel_reply, cleared_reply, error_reply, failed_reply, mask_in, no_cid, status_reply, text_in, value_reply, version_reply}
 use Rattle.ca_queue.specs.Keys.{is_among, same}
 use Rattle.ca_queue.specs.Queue.{added, posted}
+use Rattle.ca_display.specs.declared.image_type.ImageType.{ImageType}
+use Rattle.ca_display.specs.Types.{base_in}
 use Rattle.ca_model.specs.Due.{Action, Adds, Applies, CidTaken, Clears, Drops, Due, Greets, KnownChannel, Knows, Names, Nothing, PutReads, PutRefused, PutTaken, Serves, Switches, Waits, early_fault, fault_of_event, is_known, key_in, late_fault, must_wait, named, search_due, subscription_in}
 use Rattle.ca_model.specs.Ends.{Peer}
-use Rattle.ca_model.specs.Faults.{base_type_of, early_put_fault, read_count, read_fault, read_shown, subscribed_count, subscription_fault, too_many, type_of}
+use Rattle.ca_model.specs.Faults.{early_put_fault, read_count, read_fault, read_shown, subscribed_count, subscription_fault, too_many}
+use Rattle.ca_model.specs.Images.{base_type_of, image_of, image_type_of, lacks_conversion_to, lacks_type}
 use Rattle.ca_model.specs.Server.{OpenChannel, Server, ServerEnd, Subscription, key_of, with_events, without_subscriptions}
 use Rattle.ca_model.specs.ServerSteps.{Acts, TakesIn, known_channel, known_record, without_channel}
 use Rattle.ca_model.specs.Speech.{In, Stored}
@@ -64,35 +64,31 @@ use Rattle.ca_server_circuit.proofs.Taken.{put_in}
 none-is : {A : Type 0} (n : ℕ) → (let none : Option ℕ = None in Some n ≡ none) → A
 none-is n e = absurd cc
 
-faultless-2 : (a b : Bool) (p q : ℕ) → first_fault ((a, p) ∷ (b, q) ∷ []) ≡ None → b ≡ false
-faultless-2 true b p q is = none-is p is
-faultless-2 false true p q is = none-is q is
-faultless-2 false false p q is = refl
+-- without a fault each test fails
+faultless : (b : Bool) (status : ℕ) (others : List (Bool × ℕ)) → first_fault ((b, status) ∷ others) ≡ None → (b ≡ false) × (first_fault others ≡ None)
+faultless true status others is = none-is status is
+faultless false status others is = (refl, is)
 
-faultless-3 : (a b c : Bool) (p q r : ℕ) → first_fault ((a, p) ∷ (b, q) ∷ (c, r) ∷ []) ≡ None → (a ≡ false) × (b ≡ false)
-faultless-3 true b c p q r is = none-is p is
-faultless-3 false true c p q r is = none-is q is
-faultless-3 false false c p q r is = (refl, refl)
+faultless-2 : (a b : Bool) (p q : ℕ) → first_fault ((a, p) ∷ (b, q) ∷ []) ≡ None → (a ≡ false) × (b ≡ false)
+faultless-2 a b p q is = (let one = faultless a p ((b, q) ∷ []) is in (one.0, (faultless b q [] one.1).0))
 
-faultless-4 : (a b c d : Bool) (p q r t : ℕ) → first_fault ((a, p) ∷ (b, q) ∷ (c, r) ∷ (d, t) ∷ []) ≡ None → (c ≡ false) × (d ≡ false)
-faultless-4 true b c d p q r t is = none-is p is
-faultless-4 false true c d p q r t is = none-is q is
-faultless-4 false false true d p q r t is = none-is r is
-faultless-4 false false false true p q r t is = none-is t is
-faultless-4 false false false false p q r t is = (refl, refl)
+faultless-3 : (a b c : Bool) (p q r : ℕ) → first_fault ((a, p) ∷ (b, q) ∷ (c, r) ∷ []) ≡ None → (a ≡ false) × ((b ≡ false) × (c ≡ false))
+faultless-3 a b c p q r is = (let one = faultless a p ((b, q) ∷ (c, r) ∷ []) is in (one.0, faultless-2 b c q r one.1))
 
-faultless-5 : (a b c d f : Bool) (p q r t u : ℕ) → first_fault ((a, p) ∷ (b, q) ∷ (c, r) ∷ (d, t) ∷ (f, u) ∷ []) ≡ None → f ≡ false
-faultless-5 true b c d f p q r t u is = none-is p is
-faultless-5 false true c d f p q r t u is = none-is q is
-faultless-5 false false true d f p q r t u is = none-is r is
-faultless-5 false false false true f p q r t u is = none-is t is
-faultless-5 false false false false true p q r t u is = none-is u is
-faultless-5 false false false false false p q r t u is = refl
+faultless-5 : (a b c d e : Bool) (p q r s t : ℕ) → first_fault ((a, p) ∷ (b, q) ∷ (c, r) ∷ (d, s) ∷ (e, t) ∷ []) ≡ None → (b ≡ false) × ((c ≡ false) × ((d ≡ false) × (e ≡ false)))
+faultless-5 a b c d e p q r s t is =
+    let one = faultless a p ((b, q) ∷ (c, r) ∷ (d, s) ∷ (e, t) ∷ []) is in
+    let two = faultless b q ((c, r) ∷ (d, s) ∷ (e, t) ∷ []) one.1 in
+    (two.0, faultless-3 c d e r s t two.1)
+
+pub faultless-6 : (a b c d e f : Bool) (p q r s t u : ℕ) → first_fault ((a, p) ∷ (b, q) ∷ (c, r) ∷ (d, s) ∷ (e, t) ∷ (f, u) ∷ []) ≡ None → (c ≡ false) × ((d ≡ false) × ((e ≡ false) × (f ≡ false)))
+faultless-6 a b c d e f p q r s t u is = faultless-5 b c d e f q r s t u (faultless a p ((b, q) ∷ (c, r) ∷ (d, s) ∷ (e, t) ∷ (f, u) ∷ []) is).1
 
 -- an EVENT_ADD without a fault leaves no more subscriptions than there may be
-few-others : (r : RecordState) (bits : ℕ) (used : Bool) (others : ℕ) (m : Fields) (o : Option DataType) → subscription_fault r bits used others m o ≡ None → others < 288
+few-others : (r : RecordState) (bits : ℕ) (used : Bool) (others : ℕ) (m : Fields) (o : Option ImageType) → subscription_fault r bits used others m o ≡ None → others < 288
 few-others r bits used others m None is = none-is bad_type is
-few-others r bits used others m (Some t) is = ltb-true others 288 (not-false (nat_lt others 288) (faultless-5 (not (may_read bits)) (nat_lt (length m.payload) 16 || (mask_in m % 16 == 0 || used)) (too_many r t (subscribed_count r m)) (lacks_conversion (converted r.value t.base)) (not (nat_lt others 288)) no_read_access add_fail bad_count no_convert add_fail is))
+few-others r bits used others m (Some t) is =
+    ltb-true others 288 (not-false (nat_lt others 288) (faultless-6 (lacks_type (display_of r.value) t) (not (may_read bits)) (nat_lt (length m.payload) 16 || (mask_in m % 16 == 0 || used)) (too_many r t (subscribed_count r m)) (lacks_conversion_to (display_of r.value) r.value (base_in t)) (not (nat_lt others 288)) bad_type no_read_access add_fail bad_count no_convert add_fail is).1.1.1)
   where
     not-false : (b : Bool) → not b ≡ false → b ≡ true
     not-false true e = refl
@@ -105,13 +101,13 @@ shown-ok (Err _) a b = absurd cc
 
 -- ---- a read
 
-answer-of : (r : RecordState) (bits : ℕ) (m : Fields) (o : Option DataType) → type_of m.data_type ≡ o → (f : Option ℕ) → read_fault r bits m o ≡ f → (reply : Fields) × AnswersRead r bits m reply
-answer-of r bits m None is f fault = (status_reply m bad_type, inl (bad_type, ap (λ (o : Option DataType). read_fault r bits m o) is, refl))
-answer-of r bits m (Some t) is (Some st) fault = (status_reply m st, inl (st, ap (λ (o : Option DataType). read_fault r bits m o) is ∙ fault, refl))
+answer-of : (r : RecordState) (bits : ℕ) (m : Fields) (o : Option ImageType) → image_type_of m.data_type ≡ o → (f : Option ℕ) → read_fault r bits m o ≡ f → (reply : Fields) × AnswersRead r bits m reply
+answer-of r bits m None is f fault = (status_reply m bad_type, inl (bad_type, ap (λ (o : Option ImageType). read_fault r bits m o) is, refl))
+answer-of r bits m (Some t) is (Some st) fault = (status_reply m st, inl (st, ap (λ (o : Option ImageType). read_fault r bits m o) is ∙ fault, refl))
 answer-of r bits m (Some t) is None fault =
-    let ok = faultless-4 (not (may_read bits)) (too_many r t (read_count r m)) (lacks_conversion (read_shown r m t)) (has_misfit (read_shown r m t)) no_read_access bad_count no_convert get_fail fault in
-    let x = shown-ok (read_shown r m t) ok.0 ok.1 in
-    (value_reply m (count_of x.0) (image t x.0 r.meta), inr (ap (λ (o : Option DataType). read_fault r bits m o) is ∙ fault, (t, x.0, is, x.1, refl)))
+    let shows = faultless-5 (lacks_type (display_of r.value) t) (not (may_read bits)) (too_many r t (read_count r m)) (lacks_conversion (read_shown r m t)) (has_misfit (read_shown r m t)) bad_type no_read_access bad_count no_convert get_fail fault in
+    let x = shown-ok (read_shown r m t) shows.1.1.0 shows.1.1.1 in
+    (value_reply m (count_of x.0) (image_of r.value t x.0 r.meta), inr (ap (λ (o : Option ImageType). read_fault r bits m o) is ∙ fault, (t, x.0, is, x.1, refl)))
 
 -- ---- a put
 
@@ -120,7 +116,7 @@ late-of : (k : Knows) (m : Fields) (c : Serves k m.p1) (e : Elements) → early_
 late-of k m c e early reads (Some st) late = inl (st, inr (early, (e, reads, late)))
 late-of k m c e early reads None late =
     let ok = faultless-3 _ _ _ _ _ _ late in
-    let x = shown-ok (given_as e (kind_of c.known.state.value)) ok.0 ok.1 in
+    let x = shown-ok (given_as e (kind_of c.known.state.value)) ok.0 ok.1.0 in
     inr (x.0, record { elements = e; early = early; reads = reads; late = late; is = x.1 })
 
 outcome : (k : Knows) (m : Fields) (c : Serves k m.p1) → AreBytes m.payload → (o : Option BaseType) → base_type_of m.data_type ≡ o → (f : Option ℕ) → early_fault k m c ≡ f → ((status : ℕ) × PutRefused k m c status) ⊎ ((value : Elements) × PutTaken k m c value)
@@ -129,7 +125,7 @@ outcome k m c are None is None early =
     none-is bad_type (sym (ap (λ (o : Option BaseType). early_put_fault c.known.state (rights k.rules k.peer.user k.peer.host c.channel.name) m o) is) ∙ early)
 outcome k m c are (Some b) is None early =
     let at_base = sym (ap (λ (o : Option BaseType). early_put_fault c.known.state (rights k.rules k.peer.user k.peer.host c.channel.name) m o) is) ∙ early in
-    let few = faultless-2 _ _ _ _ at_base in
+    let few = (faultless-2 _ _ _ _ at_base).1 in
     let long = (or_parts _ _ (or_parts _ _ few).1).1 in
     let x = reading b m.count m.payload (ltb-false _ _ long) are in
     let reads : PutReads m x.0 = record { base = b; typed = is; reads = x.1 } in
@@ -322,7 +318,7 @@ module _ (port : ℕ) (s : Store) (h : Handle) (e : ServerEnd) (m : Fields) (sou
   read : ((seat : Seat) × IsServed s e m.p1 seat) ⊎ ((cid : ℕ) × IsStray e m.p1 cid) → Part port s h e m command.ReadNotify
   read (inl x) =
       let bits : ℕ = rights s.rules e.peer.user e.peer.host x.1.channel.name in
-      let a = answer-of x.1.r.state bits m (type_of m.data_type) refl (read_fault x.1.r.state bits m (type_of m.data_type)) refl in
+      let a = answer-of x.1.r.state bits m (image_type_of m.data_type) refl (read_fault x.1.r.state bits m (image_type_of m.data_type)) refl in
       let r = served-read port s e (replied (a.0 ∷ []) e) m a.0 x.0 x.1 a.1 refl in
       quiet command.ReadNotify r.replies r.due
   read (inr x) = (let r = stray-read port s e (replied (status_reply m bad_channel ∷ []) e) m x.0 x.1 refl in quiet command.ReadNotify r.replies r.due)
@@ -387,7 +383,7 @@ module _ (port : ℕ) (s : Store) (h : Handle) (e : ServerEnd) (m : Fields) (sou
       let x : Subscription = subscription_in m i.channel.name in
       let v : Stored = record { value = i.r.state.value; meta = i.r.state.meta } in
       let all : length (map key_of e.subscriptions) ≡ length e.subscriptions = length-map e.subscriptions key_of in
-      let few = few-others i.r.state (rights s.rules e.peer.user e.peer.host i.channel.name) (is_among (key_in m) (map key_of e.subscriptions)) (length (map key_of e.subscriptions)) m (type_of m.data_type) fault in
+      let few = few-others i.r.state (rights s.rules e.peer.user e.peer.host i.channel.name) (is_among (key_in m) (map key_of e.subscriptions)) (length (map key_of e.subscriptions)) m (image_type_of m.data_type) fault in
       let new = begun x v (omega (arith, few, all)) in
       record {
         replies = [];

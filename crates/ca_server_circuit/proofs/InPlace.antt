@@ -27,7 +27,8 @@ use Rattle.ca_wire.specs.declared.reading.Head.{Head}
 use Rattle.ca_wire.specs.declared.requests.Wanted.{Wanted}
 use Rattle.ca_wire.proofs.Headers.{length-extended, length-short}
 use Rattle.ca_model.specs.Due.{Action, Adds, Applies, Clears, Drops, Due, Greets, Names, Nothing, Opens, PutReads, Switches, Waits}
-use Rattle.ca_model.specs.Faults.{base_type_of, early_put_fault}
+use Rattle.ca_model.specs.Faults.{early_put_fault}
+use Rattle.ca_model.specs.Images.{base_type_of}
 use Rattle.ca_model.specs.Server.{Server, ServerEnd, new_server}
 use Rattle.ca_model.specs.ServerSteps.{Acts}
 use Rattle.ca_server_circuit.specs.declared.seek.Seat.{Seat}

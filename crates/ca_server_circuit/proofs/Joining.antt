@@ -13,7 +13,8 @@ use Rattle.ca_records.specs.Rules.{rights}
 use Rattle.ca_records.specs.Store.{Store}
 use Rattle.ca_wire.specs.Fields.{Fields}
 use Rattle.ca_model.specs.Due.{Action, Adds, Nothing, fault_of_event, key_in, subscription_in}
-use Rattle.ca_model.specs.Faults.{subscription_fault, type_of}
+use Rattle.ca_model.specs.Faults.{subscription_fault}
+use Rattle.ca_model.specs.Images.{image_type_of}
 use Rattle.ca_model.specs.Server.{OpenChannel, ServerEnd, Subscription, key_of}
 use Rattle.ca_model.specs.ServerSteps.{TakesIn, without_channel}
 use Rattle.ca_model.specs.Speech.{Stored}
@@ -51,11 +52,11 @@ with_subscribed x e = record e { subscriptions = x.subscriptions; queues = x.que
 
 -- a subscription began
 pub joined-event : (port : ℕ) (s : Store) (h : Handle) (e new : ServerEnd) (m : Fields) (seat : Seat) (i : IsServed s e m.p1 seat) (bits : ℕ) → bits ≡ rights s.rules e.peer.user e.peer.host i.channel.name
-    → subscription_fault i.r.state bits (is_among (key_in m) (map key_of e.subscriptions)) (length (map key_of e.subscriptions)) m (type_of m.data_type) ≡ None
+    → subscription_fault i.r.state bits (is_among (key_in m) (map key_of e.subscriptions)) (length (map key_of e.subscriptions)) m (image_type_of m.data_type) ≡ None
     → HasJoined i.r.state m e new → Does (Subscribes (known port s e) m) s h e m (effect.Began seat.place m.p1 m.p2) s new
 joined-event port s h e new m seat i bits right fault joined =
     let none : fault_of_event (known port s e) m (serves port s e m.p1 seat i) ≡ None =
-    ap (λ (n : ℕ). subscription_fault i.r.state n (is_among (key_in m) (map key_of e.subscriptions)) (length (map key_of e.subscriptions)) m (type_of m.data_type)) (sym right) ∙ fault in
+    ap (λ (n : ℕ). subscription_fault i.r.state n (is_among (key_in m) (map key_of e.subscriptions)) (length (map key_of e.subscriptions)) m (image_type_of m.data_type)) (sym right) ∙ fault in
     record {
       replies = [];
       action = Adds (subscription_in m i.channel.name);
@@ -99,10 +100,10 @@ how-many v e n is asked = asked ∙ ap (λ (z : ServerEnd). length z.subscriptio
 
 -- the fault of an EVENT_ADD, by what was asked
 pub fault-is : (e : ServerEnd) (m : Fields) (r q : _) (bits : ℕ) (b : Bool) (n : ℕ) (o : Option ℕ) → q ≡ r → b ≡ is_among (key_in m) (map key_of e.subscriptions) → n ≡ length (map key_of e.subscriptions)
-    → subscription_fault q bits b n m (type_of m.data_type) ≡ o
-    → subscription_fault r bits (is_among (key_in m) (map key_of e.subscriptions)) (length (map key_of e.subscriptions)) m (type_of m.data_type) ≡ o
+    → subscription_fault q bits b n m (image_type_of m.data_type) ≡ o
+    → subscription_fault r bits (is_among (key_in m) (map key_of e.subscriptions)) (length (map key_of e.subscriptions)) m (image_type_of m.data_type) ≡ o
 fault-is e m r q bits b n o same used many fault =
-    sym (λ i. subscription_fault (same i) bits (used i) (many i) m (type_of m.data_type)) ∙ fault
+    sym (λ i. subscription_fault (same i) bits (used i) (many i) m (image_type_of m.data_type)) ∙ fault
 
 -- ---- subscriptions end
 

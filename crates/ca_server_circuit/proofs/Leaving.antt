@@ -1,24 +1,29 @@
 -- Updates leave an end, some of whose bytes have left already.
-use Rattle.std.proofs.Common.{◌≡◌, ℕ, ◌≤◌, true, false, Bool, ◌+◌, List, [], ◌∷◌, ◌++◌, length, Result, Ok, Err, refl, sym, ap, ◌∙◌, subst, arith}
+use Rattle.std.proofs.Common.{◌≡◌, ℕ, ◌≤◌, true, false, Bool, ◌+◌, List, [], ◌∷◌, ◌++◌, length, Option, Some, None, Result, Ok, Err, refl, sym, ap, ◌∙◌, subst, arith}
 use Rattle.std.proofs.lemmas.List.{append-nil, append_assoc, length-append}
 use Rattle.std.specs.Prelude.{OnErr, OnOk, drop}
 use Rattle.std.specs.List.{FoldsTo, flat_map}
 use Rattle.std.specs.declared.alloc.AllocError.{AllocError}
 use Rattle.ca_text.specs.Limits.{output_limit}
 use Rattle.ca_text.specs.Status.{normal}
-use Rattle.ca_dbr.specs.Image.{image}
-use Rattle.ca_dbr.specs.Shown.{shown}
+use Rattle.ca_text.specs.declared.refusal.Refusal.{Refusal}
+use Rattle.ca_text.specs.declared.refusal.Refusal.TheVariants as refusal
+use Rattle.ca_dbr.specs.Held.{bare, display_of}
+use Rattle.ca_display.specs.declared.image_type.ImageType.{ImageType}
 use Rattle.ca_link.specs.Link.{LinkState, with_handed, with_sent}
 use Rattle.ca_wire.specs.Fields.{Fields}
 use Rattle.ca_wire.specs.Header.{header_spelling}
 use Rattle.ca_wire.specs.Message.{header_of, spelled, spelling}
 use Rattle.ca_wire.specs.Messages.{update}
 use Rattle.ca_wire.specs.declared.requests.Wanted.{Wanted}
+use Rattle.ca_model.specs.Images.{image_type_of, shown_in}
 use Rattle.ca_model.specs.Server.{ServerEnd}
 use Rattle.ca_model.specs.ServerSteps.{Leaves, Rests, Update}
 use Rattle.ca_model.specs.Speech.{Stored}
 use Rattle.ca_model.specs.Updates.{ShowsTo, update_count}
+use Rattle.ca_server_subscriptions.specs.Imaging.{image_as, shown_image}
 use Rattle.ca_server_subscriptions.specs.Sharing.{IsUpdateOf}
+use Rattle.ca_server_subscriptions.proofs.Imaging.{image-of}
 use Rattle.ca_server_circuit.specs.CircuitOutput.{Grows, OutputState, SendsBehind, addressed, behind, bytes_of, emptied_end, end_behind}
 use Rattle.ca_server_circuit.specs.Pumping.{PumpsEnd, PumpsOne, PumpsOver}
 use Rattle.ca_server_circuit.proofs.Pumps.{rests-full, shows-update}
@@ -88,12 +93,28 @@ shares-behind m o n l k taken handed =
 -- what is shared, to a subscription that asks for it
 pub shows-shared : (w : Wanted) (v : Stored) (m : Fields) → IsUpdateOf v m → m.data_type ≡ w.data_type → m.count ≡ update_count w v → ShowsTo w v (addressed w.id m)
 shows-shared w v m is typed counted =
-    let t = is.0 in
-    let e = is.2.0 in
-    shows-update w v t (is.1 ∙ typed) e (addressed w.id m) (ap (λ (k : ℕ). shown v.value k t.base) (sym counted) ∙ is.2.1)
-    (ap (λ (x : Fields). addressed w.id x) is.2.2
-    ∙ ap (λ (k : ℕ). update k m.count normal w.id (image t e v.meta)) typed
-    ∙ ap (λ (k : ℕ). update w.data_type k normal w.id (image t e v.meta)) counted)
+    let bytes = is.0 in
+    let t = typed-for m.data_type v is.1 in
+    let x = image-of m.data_type m.count v.value v.meta t.0 t.1 bytes is.1 in
+    shows-update w v t.0 (ap image_type_of (sym typed) ∙ t.1) x.0 (addressed w.id m) (ap (λ (k : ℕ). shown_in v.value k t.0) (sym counted) ∙ x.1)
+    (ap (λ (f : Fields). addressed w.id f) is.2
+    ∙ ap (λ (k : ℕ). update k m.count normal w.id bytes) typed
+    ∙ ap (λ (k : ℕ). update w.data_type k normal w.id bytes) counted
+    ∙ ap (λ (b : List ℕ). update w.data_type (update_count w v) normal w.id b) x.2)
+  where
+    -- there is an image, so there is its type
+    typed-for : (n : ℕ) (u : Stored) → shown_image n m.count u.value u.meta ≡ Ok is.0 → (t : ImageType) × (image_type_of n ≡ Some t)
+    typed-for n u made = by (image_type_of n) refl
+      where
+        none : image_type_of n ≡ None → ⊥
+        none lacks = never (sym made ∙ ap (λ (o : Option ImageType). image_as (display_of u.value) (bare u.value) m.count u.meta o) lacks)
+          where
+            never : ◌≡◌ {A = Result (List ℕ) Refusal} (Ok is.0) (Err refusal.BadType) → ⊥
+            never e = cc
+
+        by : (o : Option ImageType) → image_type_of n ≡ o → (t : ImageType) × (image_type_of n ≡ Some t)
+        by None lacks = absurd (none lacks)
+        by (Some t) typed = (t, typed)
 
 -- ---- pieces
 

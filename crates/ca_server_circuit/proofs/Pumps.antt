@@ -1,5 +1,5 @@
 -- Updates leave the queues of an end.
-use Rattle.std.proofs.Common.{◌≡◌, ℕ, zero, suc, ◌+◌, ◌-◌, ◌*◌, ◌<◌, ◌≤◌, ◌⊎◌, inl, inr, Bool, true, false, cond, List, [], ◌∷◌, ◌++◌, length, replicate, Option, Some, None, Result, Ok, Err, refl, sym, ap, ◌∙◌, subst, arith}
+use Rattle.std.proofs.Common.{◌≡◌, ℕ, zero, suc, ◌+◌, ◌-◌, ◌<◌, ◌≤◌, ◌⊎◌, inl, inr, Bool, true, false, cond, List, [], ◌∷◌, ◌++◌, length, replicate, Option, Some, None, Result, Ok, Err, refl, sym, ap, ◌∙◌, subst, arith}
 use Rattle.std.proofs.lemmas.List.{append-nil, length-append}
 use Rattle.std.specs.Prelude.{◌==◌, IfSome, if◌then◌else◌, slice_set}
 use Rattle.std.specs.Int.{to_be_bytes, w64}
@@ -7,42 +7,42 @@ use Rattle.std.specs.List.{FoldsTo}
 use Rattle.std.specs.Result.{IsErr}
 use Rattle.std.specs.declared.alloc.AllocError.{AllocError}
 use Rattle.ca_text.specs.declared.refusal.Refusal.{Refusal}
-use Rattle.ca_text.specs.Limits.{element_limit, output_limit, payload_limit}
+use Rattle.ca_text.specs.Limits.{output_limit}
 use Rattle.ca_text.specs.Status.{get_fail, normal}
 use Rattle.ca_text.specs.Place.{At}
 use Rattle.ca_text.proofs.Places.{At-one, At-within}
-use Rattle.ca_dbr.specs.declared.data_type.BaseType.{BaseType}
-use Rattle.ca_dbr.specs.declared.data_type.BaseType.TheVariants as base
 use Rattle.ca_dbr.specs.declared.data_type.DataType.{DataType}
-use Rattle.ca_dbr.specs.declared.data_type.Form.{Form}
 use Rattle.ca_dbr.specs.declared.data_type.Form.TheVariants as form
 use Rattle.ca_dbr.specs.Scalar.{IsScalar}
 use Rattle.ca_dbr.specs.Elements.{Elements, base_of, bytes_8, count_of}
-use Rattle.ca_dbr.specs.Image.{image}
-use Rattle.ca_dbr.specs.Shown.{shown}
-use Rattle.ca_dbr.specs.Types.{element_size, meta_size, padding_size, size_of_image, type_number}
+use Rattle.ca_dbr.specs.Held.{bare, display_of}
+use Rattle.ca_dbr.proofs.Helds.{count_of-bare}
+use Rattle.ca_display.specs.declared.image_type.ImageType.{ImageType}
+use Rattle.ca_display.specs.declared.image_type.ImageType.TheVariants as any
+use Rattle.ca_display.specs.Image.{size_in}
 use Rattle.ca_link.specs.Calls.{IsOpen}
 use Rattle.ca_link.specs.Link.{LinkState, with_sent}
 use Rattle.ca_queue.specs.declared.entry.SubKey.{SubKey}
 use Rattle.ca_queue.specs.Circuit.{RestBefore}
 use Rattle.ca_queue.specs.Queue.{with_front_taken}
 use Rattle.ca_wire.specs.declared.requests.Wanted.{Wanted}
-use Rattle.ca_wire.specs.Fields.{Fields}
+use Rattle.ca_wire.specs.Fields.{Fields, padded}
 use Rattle.ca_wire.specs.Header.{header_spelling}
 use Rattle.ca_wire.specs.Message.{header_of, spelled, spelling}
 use Rattle.ca_wire.proofs.Headers.{length-header_spelling}
 use Rattle.ca_wire.specs.Messages.{scalar, update}
+use Rattle.ca_model.specs.Images.{image_of, image_type_of, shown_by, shown_in}
 use Rattle.ca_model.specs.Server.{ServerEnd, key_of}
 use Rattle.ca_model.specs.ServerSteps.{Leaves, Rests, Update}
 use Rattle.ca_model.specs.Speech.{Stored}
 use Rattle.ca_model.specs.Updates.{ShowsTo, update_count, update_in}
 use Rattle.ca_server_subscriptions.specs.Pumping.{GivesUpdate, MayGive}
 use Rattle.ca_server_subscriptions.specs.Subscribed.{IsAskable, Subscribed}
+use Rattle.ca_server_subscriptions.proofs.Imaging.{image_by-data, image_type-of-number, image_type-there, shown_by-own}
 use Rattle.ca_text.specs.Command.{command_number}
 use Rattle.ca_text.specs.declared.command.Command.TheVariants as command
 use Rattle.ca_server_circuit.specs.Pumping.{PumpsEnd, PumpsOne, scalar_update}
 use Rattle.ca_server_circuit.specs.Subscribing.{events_of}
-use Rattle.ca_server_circuit.proofs.Types.{type-of-number, typed-by}
 
 -- ---- when none may leave
 
@@ -89,8 +89,8 @@ lacks-one v e l new w x (Err a) yes_it is room g shows same =
 pub lacks-any : (v e : ServerEnd) (r : Result Bool AllocError) → IsErr r → v ≡ e → length v.link.output < output_limit → ((w : Wanted) × ((x : Stored) × (IsAskable w × MayGive (events_of v) w x))) → PumpsOne e r v
 lacks-any v e (Ok b) no_it is room g = absurd cc
 lacks-any v e (Err a) yes_it is room (w, (x, (askable, (new, g)))) =
-    let t = typed-by w.data_type askable.typed in
-    let m = update_in w x t.0 (shown x.value (update_count w x) t.0.base) in
+    let t = image_type-there w.data_type askable.typed in
+    let m = update_in w x t.0 (shown_in x.value (update_count w x) t.0) in
     let u = leaving v w x new m room g (t.0, t.1, refl) in (
       subst (λ (z : ServerEnd). (y : Update) × (s : ServerEnd) × Leaves z y s) is (u.0, record v { link = with_sent (m ∷ []) v.link; subscriptions = new.subscriptions; queues = new.queues }, u.1),
       ap (λ (z : ServerEnd). z.link.output) is,
@@ -231,43 +231,17 @@ pumped-none old now next d (Err a) yes_it sent p =
 
 -- ---- the message
 
-pub small-image : (t : DataType) (n : ℕ) → n ≤ element_limit → size_of_image t n ≤ payload_limit
-small-image t n few = by t.base t.form
-  where
-    by : (b : BaseType) (f : Form) → meta_size f + padding_size f b + n * element_size b ≤ 16777216
-    by base.String form.Plain = omega (arith, few)
-    by base.String form.Status = omega (arith, few)
-    by base.String form.Time = omega (arith, few)
-    by base.Int form.Plain = omega (arith, few)
-    by base.Int form.Status = omega (arith, few)
-    by base.Int form.Time = omega (arith, few)
-    by base.Float form.Plain = omega (arith, few)
-    by base.Float form.Status = omega (arith, few)
-    by base.Float form.Time = omega (arith, few)
-    by base.Enum form.Plain = omega (arith, few)
-    by base.Enum form.Status = omega (arith, few)
-    by base.Enum form.Time = omega (arith, few)
-    by base.Char form.Plain = omega (arith, few)
-    by base.Char form.Status = omega (arith, few)
-    by base.Char form.Time = omega (arith, few)
-    by base.Long form.Plain = omega (arith, few)
-    by base.Long form.Status = omega (arith, few)
-    by base.Long form.Time = omega (arith, few)
-    by base.Double form.Plain = omega (arith, few)
-    by base.Double form.Status = omega (arith, few)
-    by base.Double form.Time = omega (arith, few)
-
-module _ (w : Wanted) (v : Stored) (t : DataType) (numbered : type_number t ≡ w.data_type) where
+module _ (w : Wanted) (v : Stored) (t : ImageType) (typed : image_type_of w.data_type ≡ Some t) where
   pub some-update : (m : Fields) × ShowsTo w v m
-  some-update = (update_in w v t (shown v.value (update_count w v) t.base), (t, type-of-number t w.data_type numbered, refl))
+  some-update = (update_in w v t (shown_in v.value (update_count w v) t), (t, typed, refl))
 
-  pub shows-update : (f : Elements) (m : Fields) → shown v.value (update_count w v) t.base ≡ Ok f
-      → m ≡ update w.data_type (update_count w v) normal w.id (image t f v.meta) → ShowsTo w v m
-  shows-update f m is made = (t, type-of-number t w.data_type numbered, made ∙ sym (ap (λ (r : Result Elements Refusal). update_in w v t r) is))
+  pub shows-update : (f : Elements) (m : Fields) → shown_in v.value (update_count w v) t ≡ Ok f
+      → m ≡ update w.data_type (update_count w v) normal w.id (image_of v.value t f v.meta) → ShowsTo w v m
+  shows-update f m is made = (t, typed, made ∙ sym (ap (λ (r : Result Elements Refusal). update_in w v t r) is))
 
-  pub fails-update : (why : Refusal) (m : Fields) → shown v.value (update_count w v) t.base ≡ Err why
-      → m ≡ update w.data_type (update_count w v) get_fail w.id (replicate (size_of_image t (update_count w v)) 0) → ShowsTo w v m
-  fails-update why m is made = (t, type-of-number t w.data_type numbered, made ∙ sym (ap (λ (r : Result Elements Refusal). update_in w v t r) is))
+  pub fails-update : (why : Refusal) (m : Fields) → shown_in v.value (update_count w v) t ≡ Err why
+      → m ≡ update w.data_type (update_count w v) get_fail w.id (replicate (size_in t (update_count w v)) 0) → ShowsTo w v m
+  fails-update why m is made = (t, typed, made ∙ sym (ap (λ (r : Result Elements Refusal). update_in w v t r) is))
 
 -- ---- one element, in its own type
 
@@ -276,19 +250,20 @@ one-asked zero n few one = one
 one-asked (suc zero) n few one = refl
 one-asked (suc (suc k)) n few one = absurd (omega (arith, few))
 
-pub shows-scalar : (w : Wanted) (v : Stored) (n : ℕ) (e : Elements) → w.count ≤ 1 → e ≡ v.value → IsScalar e w.data_type n → ShowsTo w v (scalar (scalar_update w n))
+pub shows-scalar : (w : Wanted) (v : Stored) (n : ℕ) (e : Elements) → w.count ≤ 1 → e ≡ bare v.value → IsScalar e w.data_type n → ShowsTo w v (scalar (scalar_update w n))
 unfolding bytes_8
 shows-scalar w v n e few same is =
     let t : DataType = record { base = base_of e; form = form.Plain } in
-    let one : count_of v.value ≡ 1 = ap count_of (sym same) ∙ is.one in
+    let typed : image_type_of w.data_type ≡ Some (any.Data t) = image_type-of-number (any.Data t) w.data_type (omega (arith, is.typed)) in
+    let one : count_of v.value ≡ 1 = sym (count_of-bare v.value) ∙ ap count_of (sym same) ∙ is.one in
     let asks : update_count w v ≡ 1 = one-asked w.count (count_of v.value) few one in
-    let shown-so : shown v.value (update_count w v) (base_of e) ≡ Ok e =
-    ap (λ (x : Elements). shown x (update_count w v) (base_of e)) (sym same) ∙ ap (λ (k : ℕ). shown e k (base_of e)) asks ∙ is.shown in
+    let shown-so : shown_in v.value (update_count w v) (any.Data t) ≡ Ok e =
+    ap (λ (k : ℕ). shown_in v.value k (any.Data t)) asks ∙ ap (λ (x : Elements). shown_by (display_of v.value) x 1 (any.Data t)) (sym same) ∙ shown_by-own (display_of v.value) e 1 t refl ∙ is.shown in
     let made : ℕ → List ℕ → Fields =
     λ k p. record { command = command_number command.EventAdd; data_type = w.data_type; count = k; p1 = normal; p2 = w.id; payload = p } in
-    shows-update w v t (omega (arith, is.typed)) e (scalar (scalar_update w n)) shown-so
-    (ap (λ (k : ℕ). made k (to_be_bytes w64 n)) (sym asks) ∙ ap (λ (p : List ℕ). made (update_count w v) p) (sym is.bytes))
+    shows-update w v (any.Data t) typed e (scalar (scalar_update w n)) shown-so
+    (ap (λ (k : ℕ). made k (to_be_bytes w64 n)) (sym asks) ∙ ap (λ (p : List ℕ). made (update_count w v) p) (sym is.bytes) ∙ ap (λ (p : List ℕ). made (update_count w v) (padded p)) (sym (image_by-data (display_of v.value) t e v.meta)))
 
-pub if-scalar : (w : Wanted) (v : Stored) (e : Elements) (o : Option ℕ) → w.count ≤ 1 → e ≡ v.value → IfSome o (λ n. IsScalar e w.data_type n) → IfSome o (λ n. ShowsTo w v (scalar (scalar_update w n)))
+pub if-scalar : (w : Wanted) (v : Stored) (e : Elements) (o : Option ℕ) → w.count ≤ 1 → e ≡ bare v.value → IfSome o (λ n. IsScalar e w.data_type n) → IfSome o (λ n. ShowsTo w v (scalar (scalar_update w n)))
 if-scalar w v e (Some n) few same is = shows-scalar w v n e few same is
 if-scalar w v e None few same is = tt

@@ -5,10 +5,11 @@ use Rattle.ca_text.proofs.Places.{At-one, some_is}
 use Rattle.ca_queue.specs.Keys.{is_among}
 use Rattle.ca_records.specs.Puts.{Record}
 use Rattle.ca_records.specs.Record.{RecordState}
-use Rattle.ca_model.specs.Faults.{read_fault, subscription_fault, type_of}
+use Rattle.ca_model.specs.Faults.{read_fault, subscription_fault}
+use Rattle.ca_model.specs.Images.{image_type_of}
 use Rattle.ca_text.specs.Command.{command_number}
 use Rattle.ca_text.specs.declared.command.Command.TheVariants as command
-use Rattle.ca_dbr.specs.declared.data_type.DataType.{DataType}
+use Rattle.ca_display.specs.declared.image_type.ImageType.{ImageType}
 use Rattle.ca_wire.specs.declared.requests.Wanted.{Wanted}
 use Rattle.ca_link.specs.Link.{LinkState, with_sent}
 use Rattle.ca_text.specs.Status.{bad_channel}
@@ -77,7 +78,7 @@ served-read port s e new m reply seat i answers done = record {
     by (inr h) = (serves port s e m.p1 seat i, refl, inr (h.0, (h.1.0, h.1.1, h.1.2, h.1.3, ap (λ (x : Fields). x ∷ []) h.1.4)))
 
 -- what a read asks for, whatever its payload is
-same-fault : (r : RecordState) (bits : ℕ) (m : Fields) (c : ℕ) (o : Option DataType) → (let header_only : Fields = record { command = c; data_type = m.data_type; count = m.count; p1 = m.p1; p2 = m.p2; payload = [] } in read_fault r bits header_only o ≡ read_fault r bits m o)
+same-fault : (r : RecordState) (bits : ℕ) (m : Fields) (c : ℕ) (o : Option ImageType) → (let header_only : Fields = record { command = c; data_type = m.data_type; count = m.count; p1 = m.p1; p2 = m.p2; payload = [] } in read_fault r bits header_only o ≡ read_fault r bits m o)
 same-fault r bits m c None = refl
 same-fault r bits m c (Some t) = refl
 
@@ -86,8 +87,8 @@ abbrev without_payload : Fields → Fields
 without_payload m = record { command = m.command; data_type = m.data_type; count = m.count; p1 = m.p1; p2 = m.p2; payload = [] }
 
 due-anyway : (k : Knows) (m : Fields) (replies : List Fields) (action : Action) → Reads k (without_payload m) replies action → Reads k m replies action
-due-anyway k m replies action (inl (c, nothing, inl (status, fault, are))) = inl (c, nothing, inl (status, sym (same-fault c.known.state (rights_at k c.channel.name) m m.command (type_of m.data_type)) ∙ fault, are))
-due-anyway k m replies action (inl (c, nothing, inr (none, shows))) = inl (c, nothing, inr (sym (same-fault c.known.state (rights_at k c.channel.name) m m.command (type_of m.data_type)) ∙ none, shows))
+due-anyway k m replies action (inl (c, nothing, inl (status, fault, are))) = inl (c, nothing, inl (status, sym (same-fault c.known.state (rights_at k c.channel.name) m m.command (image_type_of m.data_type)) ∙ fault, are))
+due-anyway k m replies action (inl (c, nothing, inr (none, shows))) = inl (c, nothing, inr (sym (same-fault c.known.state (rights_at k c.channel.name) m m.command (image_type_of m.data_type)) ∙ none, shows))
 due-anyway k m replies action (inr stray) = inr stray
 
 pub read-of : (k : Knows) (e new : ServerEnd) (m : Fields) (w : Wanted) → m.command ≡ command_number command.ReadNotify → w ≡ wanted_in m → Replies (Reads k (read_request w)) e new → Replies (Reads k m) e new
@@ -120,11 +121,11 @@ stray-event port s e new m cid is done = record {
 }
 
 pub refused-event : (port : ℕ) (s : Store) (e new : ServerEnd) (m : Fields) (seat : Seat) (i : IsServed s e m.p1 seat) (bits status : ℕ) → bits ≡ rights s.rules e.peer.user e.peer.host i.channel.name
-    → subscription_fault i.r.state bits (is_among (key_in m) (map key_of e.subscriptions)) (length (map key_of e.subscriptions)) m (type_of m.data_type) ≡ Some status
+    → subscription_fault i.r.state bits (is_among (key_in m) (map key_of e.subscriptions)) (length (map key_of e.subscriptions)) m (image_type_of m.data_type) ≡ Some status
     → new ≡ replied (error_reply seat.cid status m ∷ []) e → Replies (Subscribes (known port s e) m) e new
 refused-event port s e new m seat i bits status right fault done =
-    let same : fault_of_event (known port s e) m (serves port s e m.p1 seat i) ≡ subscription_fault i.r.state bits (is_among (key_in m) (map key_of e.subscriptions)) (length (map key_of e.subscriptions)) m (type_of m.data_type) =
-    ap (λ (n : ℕ). subscription_fault i.r.state n (is_among (key_in m) (map key_of e.subscriptions)) (length (map key_of e.subscriptions)) m (type_of m.data_type)) (sym right) in
+    let same : fault_of_event (known port s e) m (serves port s e m.p1 seat i) ≡ subscription_fault i.r.state bits (is_among (key_in m) (map key_of e.subscriptions)) (length (map key_of e.subscriptions)) m (image_type_of m.data_type) =
+    ap (λ (n : ℕ). subscription_fault i.r.state n (is_among (key_in m) (map key_of e.subscriptions)) (length (map key_of e.subscriptions)) m (image_type_of m.data_type)) (sym right) in
     record {
       replies = error_reply i.channel.cid status m ∷ [];
       due = inl (serves port s e m.p1 seat i, inl (status, same ∙ fault, refl, refl));

@@ -17,7 +17,6 @@ pub mod Posting
 pub mod Pumping
 pub mod Removing
 pub mod Peeking
-pub mod Imaging
 pub mod Concerned
 pub mod Names
 pub mod AtOnce

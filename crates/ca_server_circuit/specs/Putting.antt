@@ -15,7 +15,8 @@ use Rattle.ca_wire.specs.Fields.{Fields}
 use Rattle.ca_wire.specs.Messages.{on_channel}
 use Rattle.ca_wire.specs.declared.requests.Wanted.{Wanted}
 use Rattle.ca_model.specs.Due.{PutReads}
-use Rattle.ca_model.specs.Faults.{base_type_of, early_put_fault}
+use Rattle.ca_model.specs.Faults.{early_put_fault}
+use Rattle.ca_model.specs.Images.{base_type_of}
 use Rattle.ca_server_circuit.specs.declared.put.Given.{Given}
 use Rattle.ca_server_circuit.specs.declared.put.Given.TheVariants as given
 

@@ -1,6 +1,6 @@
 //! EVENT_ADD on an open end.
 ghost use Rattle.std.specs.Prelude.{ℕ, ◌≡◌, IfOk, OnErr, OnOk, MatchOption, [], None, Some};
-ghost use Rattle.std.specs.Prelude.{slice_index_or};
+ghost use Rattle.std.specs.Prelude.{not, slice_index_or};
 ghost use Rattle.ca_arena.specs.declared.handle.Handle.{Handle};
 ghost use Rattle.ca_text.specs.Command.{command_number};
 ghost use Rattle.ca_text.specs.declared.command.Command.TheVariants as command;
@@ -8,7 +8,11 @@ ghost use Rattle.ca_link.specs.Calls.{IsOpen};
 ghost use Rattle.ca_records.specs.Store.{records_of};
 ghost use Rattle.ca_wire.specs.Messages.{mask_in};
 ghost use Rattle.ca_wire.specs.Reading.{IsWhole};
-ghost use Rattle.ca_model.specs.Faults.{subscribed_count, subscription_fault, type_of};
+ghost use Rattle.ca_dbr.specs.Held.{display_of};
+ghost use Rattle.ca_display.specs.declared.image_type.ImageType.{ImageType};
+ghost use Rattle.ca_display.specs.Types.{base_in};
+ghost use Rattle.ca_model.specs.Faults.{subscribed_count, subscription_fault};
+ghost use Rattle.ca_model.specs.Images.{image_type_of, lacks_conversion_to};
 ghost use Rattle.ca_server_circuit.specs.Handling.{AreServed, Does, Subscribes, known};
 ghost use Rattle.ca_server_circuit.specs.Seeking.{IsServed};
 ghost use Rattle.ca_server_circuit.specs.Stepping.{first_at, message_of};
@@ -18,8 +22,10 @@ use crate::effect::Effect;
 use crate::end::End;
 use crate::in_place::{key_of, named_by};
 use crate::seek::{Seat, Sought};
+use crate::shown::shown_size;
 use crate::step::FollowUp;
-use ca_dbr::{DataType, has_conversion, image_size};
+use ca_dbr::has_conversion;
+use ca_display::{Held, ImageType};
 use ca_records::{Record, ServedRecords};
 use ca_server_subscriptions::Update;
 use ca_text::{CIRCUIT_QUEUES, PAYLOAD_LIMIT, QUEUE_SUBSCRIPTIONS, Status};
@@ -124,17 +130,15 @@ fn event_fault(
 ) -> Option<Status>
     ensures { MatchOption result
         ((subscription_fault of.now rights in_use others (message_of header.now payload.now)
-        (type_of header.now.data_type) ≡ None)
+        (image_type_of header.now.data_type) ≡ None)
         × MayBegin in_use others (message_of header.now payload.now))
         (λ s.
         subscription_fault of.now rights in_use others (message_of header.now payload.now)
-        (type_of header.now.data_type) ≡ Some s.number) }
+        (image_type_of header.now.data_type) ≡ Some s.number) }
 {
     let count = count_of(of, header);
-    let Ok(size) = image_size(header.data_type, count) else {
-        return Some(Status::BADTYPE);
-    };
-    let Some(data_type) = DataType::of(header.data_type) else {
+    let held = of.held();
+    let Some(size) = shown_size(held, header.data_type, count) else {
         return Some(Status::BADTYPE);
     };
     if rights % 2 != 1 {
@@ -155,13 +159,28 @@ fn event_fault(
     if size > PAYLOAD_LIMIT {
         return Some(Status::BADCOUNT);
     }
-    if !has_conversion(of.held().value().base_type(), data_type.base) {
+    if !converts(held, header.data_type) {
         return Some(Status::NOCONVERT);
     }
     if others >= CIRCUIT_QUEUES * QUEUE_SUBSCRIPTIONS {
         return Some(Status::ADDFAIL);
     }
     None
+}
+
+/// Whether what a record holds converts to the type of this number, which exists: with display data
+/// each type does to each other.
+fn converts(held: &Held, number: u16) -> bool
+    ensures { (t : ImageType) → image_type_of number ≡ Some t
+        → lacks_conversion_to (display_of held.now) held.now (base_in t) ≡ not result }
+{
+    if held.display().is_some() {
+        return true;
+    }
+    match ImageType::of(number) {
+        Some(image_type) => has_conversion(held.value().base_type(), image_type.base()),
+        None => false,
+    }
 }
 
 /// How many elements a subscription is for: 0 means the greatest count.

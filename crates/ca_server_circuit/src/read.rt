@@ -20,9 +20,8 @@ use crate::end::{End, send};
 use crate::fast::read::{send_scalar, shown_scalar};
 use crate::in_place::named_by;
 use crate::seek::Sought;
-use crate::shown::Shown;
+use crate::shown::{Shown, shown_size};
 use crate::step::FollowUp;
-use ca_dbr::image_size;
 use ca_link::Link;
 use ca_records::{Record, ServedRecords};
 use ca_text::{PAYLOAD_LIMIT, Refusal, Status};
@@ -137,8 +136,7 @@ fn measure(of: &Record, rights: u32, wanted: &Wanted) -> Result<ReadSize, Status
     ensures { IsWanted of.now rights (read_request wanted.now) result }
 {
     let count = count_of(of, wanted);
-    let data_type = wanted.data_type;
-    let Ok(size) = image_size(data_type, count) else {
+    let Some(size) = shown_size(of.held(), wanted.data_type, count) else {
         return Err(Status::BADTYPE);
     };
     if rights % 2 != 1 {

@@ -24,7 +24,7 @@ use crate::circuit_output::CircuitOutput;
 use crate::end::End;
 use crate::read::status_of;
 use crate::shown::{Shown, Zeros};
-use ca_dbr::image_size;
+use ca_display::display_size;
 use ca_link::Link;
 use ca_records::Record;
 use ca_server_subscriptions::{Posted, SharedUpdate, Update};
@@ -190,18 +190,18 @@ impl End {
         let Some((wanted, update)) = self.subscriptions.update_at(place, index) else {
             return None;
         };
-        Some(shown_size(&wanted, update))
+        Some(payload_size(&wanted, update))
     }
 }
 
 /// How many bytes of payload an update has at most that shows this to whoever asked so: an
 /// image, or as many zero bytes, and those of its padding.
-fn shown_size(wanted: &Wanted, shown: &Update) -> usize
+fn payload_size(wanted: &Wanted, shown: &Update) -> usize
     requires { IsAskable wanted.now }
     ensures { ShowsWithin wanted.now shown.now result }
 {
     let count = count_for(wanted.count, shown);
-    let Ok(size) = image_size(wanted.data_type, count) else {
+    let Ok(size) = display_size(wanted.data_type, count) else {
         unreachable!()
     };
     shown.held().know();
@@ -310,7 +310,7 @@ fn show_image(
         count,
     } = wanted;
     let count = count_for(count, shown);
-    let Ok(size) = image_size(data_type, count) else {
+    let Ok(size) = display_size(data_type, count) else {
         unreachable!()
     };
     let held = shown.held();

@@ -11,3 +11,4 @@ pub mod Channels
 pub mod Posts
 pub mod Passing
 mod Waits
+pub mod Imaging

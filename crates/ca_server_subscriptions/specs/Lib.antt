@@ -7,5 +7,6 @@ pub mod Owing
 pub mod Pumping
 pub mod Concerned
 pub mod Passing
+pub mod Imaging
 pub mod Sharing
 pub mod Keeping

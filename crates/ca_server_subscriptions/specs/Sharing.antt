@@ -1,14 +1,10 @@
 -- Working: a value that several updates share.
-use Rattle.std.specs.Prelude.{◌≡◌, Ok, Option, IfSome}
+use Rattle.std.specs.Prelude.{ℕ, ◌≡◌, List, Ok, Option, IfSome}
 use Rattle.ca_text.specs.Status.{normal}
-use Rattle.ca_dbr.specs.declared.data_type.DataType.{DataType}
-use Rattle.ca_dbr.specs.Elements.{Elements}
-use Rattle.ca_dbr.specs.Image.{image}
-use Rattle.ca_dbr.specs.Shown.{shown}
-use Rattle.ca_dbr.specs.Types.{type_number}
 use Rattle.ca_wire.specs.Fields.{Fields}
 use Rattle.ca_wire.specs.Messages.{update}
 use Rattle.ca_model.specs.Speech.{Stored}
+use Rattle.ca_server_subscriptions.specs.Imaging.{shown_image}
 
 -- a value with alarm and time stamp, and an update that shows it to a subscription of id 0
 pub record Shared : Type 0 where
@@ -19,9 +15,8 @@ pub record Shared : Type 0 where
 -- subscription of id 0.
 abbrev pub IsUpdateOf : Stored → Fields → Type 0
 IsUpdateOf v m =
-    (t : DataType) × (type_number t ≡ m.data_type)
-    × ((e : Elements) × (shown v.value m.count t.base ≡ Ok e)
-    × (m ≡ update m.data_type m.count normal 0 (image t e v.meta)))
+    (bytes : List ℕ) × (shown_image m.data_type m.count v.value v.meta ≡ Ok bytes)
+    × (m ≡ update m.data_type m.count normal 0 bytes)
 
 -- what is shared, if something is, is this value
 abbrev pub IsCopy : Stored → Option Shared → Type 0

@@ -22,7 +22,7 @@ pub record Subscribed : Type 0 where
 
 -- an update can be made for whoever asked so
 pub record IsAskable (w : Wanted) : Type 0 where
-  pub typed : w.data_type ≤ 20
+  pub typed : w.data_type ≤ 34
   pub few : w.count ≤ element_limit
 
 -- ---- under their keys, each with the place of its queue

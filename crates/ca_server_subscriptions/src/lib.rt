@@ -7,6 +7,7 @@
 mod at_need;
 mod by_channel;
 mod by_record;
+mod image;
 mod order;
 mod posted;
 mod queued_subscription;
@@ -18,6 +19,7 @@ mod update;
 mod waiting;
 
 pub use at_need::SubscriptionsAtNeed;
+pub use image::write_image;
 pub use posted::Posted;
 pub use shared_update::{SHARED_COUNT, SharedUpdate};
 pub use update::Update;

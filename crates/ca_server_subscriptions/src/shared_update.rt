@@ -6,7 +6,8 @@ ghost use Rattle.ca_text.specs.Limits.{element_limit};
 ghost use Rattle.ca_dbr.specs.Elements.{count_of};
 ghost use Rattle.ca_server_subscriptions.specs.Sharing.{IsUpdateOf};
 
-use ca_dbr::{Meta, write_shown};
+use crate::image::write_image;
+use ca_dbr::Meta;
 use ca_display::Held;
 use ca_text::{Command, Status};
 use ca_wire::Message;
@@ -64,7 +65,7 @@ impl SharedUpdate {
             ≡ record { value = held.now; meta = meta.now }) }
     {
         let mut image = Vec::new(alloc);
-        let Ok(()) = write_shown(data_type, count, held.value(), meta, &mut image) else {
+        let Ok(()) = write_image(data_type, count, held, meta, &mut image) else {
             return None;
         };
         let command = Command::EventAdd.number();

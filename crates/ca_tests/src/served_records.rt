@@ -11,12 +11,7 @@ use std::test::Fail;
 
 /// Adds a record of one LONG, and reports its place.
 fn add(alloc: Global, served: &mut ServedRecords, name: &[u8]) -> Result<usize, Refusal> {
-    served.add(
-        name,
-        1,
-        false,
-        Held::of(Value::Longs(vec![in alloc; 5; 1]?)),
-    )
+    served.add(name, 1, false, Value::Longs(vec![in alloc; 5; 1]?))
 }
 
 #[test]
@@ -59,7 +54,7 @@ fn holds(served: &ServedRecords, place: usize, number: i32) -> bool {
 fn writes_and_posts_leave_display_data(rt: HostRuntime) -> Result<(), Fail> {
     let alloc = rt.alloc();
     let mut served = ServedRecords::new(alloc, Vec::new(alloc));
-    let place = served.add(b"TEMP", 1, true, shown(alloc, 1)?)?;
+    let place = served.add_held(b"TEMP", 1, true, shown(alloc, 1)?)?;
     assert!(rt; holds(&served, place, 1));
     // Read over the value, and converted.
     assert!(rt; served.write_one(place, false, 5, &[0, 0, 0, 2]));

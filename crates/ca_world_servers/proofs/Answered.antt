@@ -1,21 +1,23 @@
 -- How large the replies to a message are at most, from what is read before its step.
-use Rattle.std.proofs.Common.{◌≡◌, ℕ, ◌+◌, ◌≤◌, inl, inr, Bool, true, false, List, [], ◌∷◌, ◌++◌, Option, Some, None, Ok, length, replicate, refl, sym, ap, subst, ◌∙◌, arith}
-use Rattle.std.specs.Prelude.{if◌then◌else◌, is_some, option_map}
+use Rattle.std.proofs.Common.{◌≡◌, ℕ, ◌+◌, ◌<◌, ◌≤◌, inl, inr, Bool, true, false, List, [], ◌∷◌, ◌++◌, Option, Some, None, Ok, length, replicate, refl, sym, ap, subst, ◌∙◌, arith}
+use Rattle.std.specs.Prelude.{if◌then◌else◌, is_some, not, option_map}
+use Rattle.std.proofs.lemmas.Bool.{both_ways}
 use Rattle.std.proofs.lemmas.List.{length-append, length-replicate}
 use Rattle.ca_arena.specs.declared.handle.Handle.{Handle}
-use Rattle.ca_dbr.specs.declared.data_type.DataType.{DataType}
 use Rattle.ca_dbr.specs.Elements.{Elements, count_of}
-use Rattle.ca_dbr.specs.Image.{image}
-use Rattle.ca_dbr.specs.Types.{size_of_image, type_number}
-use Rattle.ca_dbr.proofs.Helds.{length-held, shown-held}
-use Rattle.ca_dbr.proofs.Shows.{shown-is}
+use Rattle.ca_dbr.specs.Held.{display_of}
+use Rattle.ca_display.specs.declared.image_type.ImageType.{ImageType}
+use Rattle.ca_display.specs.Image.{size_in}
+use Rattle.ca_display.specs.Types.{image_number}
 use Rattle.ca_ids.specs.Table.{under}
 use Rattle.ca_records.specs.Puts.{Record, record_named}
+use Rattle.ca_records.specs.Faults.{first_fault, has_misfit, lacks_conversion}
 use Rattle.ca_records.specs.Record.{IsRecord, RecordState}
+use Rattle.ca_records.specs.Rules.{may_read}
 use Rattle.ca_text.specs.Command.{command_number}
 use Rattle.ca_text.specs.declared.command.Command.TheVariants as command
-use Rattle.ca_text.specs.Limits.{minor_version}
-use Rattle.ca_text.specs.Status.{bad_channel, normal}
+use Rattle.ca_text.specs.Limits.{minor_version, payload_limit}
+use Rattle.ca_text.specs.Status.{bad_channel, bad_count, bad_type, get_fail, no_convert, no_read_access, normal}
 use Rattle.ca_text.proofs.Places.{some_is}
 use Rattle.ca_wire.specs.Fields.{Fields}
 use Rattle.ca_wire.specs.Header.{header_spelling, number16}
@@ -25,10 +27,13 @@ use Rattle.ca_wire.proofs.Headers.{header_spelling-short}
 use Rattle.ca_wire.proofs.Numbers.{length-number16}
 use Rattle.ca_wire.proofs.Padding.{length-padded}
 use Rattle.ca_model.specs.Due.{Action, Due, KnownRecord, Knows, Serves, fault_of_read, is_known, rights_at}
-use Rattle.ca_model.specs.Faults.{read_count, read_fault, read_shown, type_of}
+use Rattle.ca_model.specs.Faults.{read_count, read_fault, read_shown, too_many}
+use Rattle.ca_model.specs.Images.{image_of, image_type_of, lacks_type}
 use Rattle.ca_model.specs.Server.{Server, ServerEnd}
 use Rattle.ca_model.specs.ServerSteps.{HasEnd, known_record, knows}
-use Rattle.ca_server_circuit.proofs.Types.{type-of-number}
+use Rattle.ca_model.proofs.Showing.{length-image_of}
+use Rattle.ca_server_circuit.proofs.Shows.{over-count, over-size}
+use Rattle.ca_server_subscriptions.proofs.Imaging.{image_type-of-number, image_type-past}
 use Rattle.ca_server_core.specs.Asking.{NamesUnder, record_now, state_in}
 use Rattle.ca_world_data.specs.Replies.{AreWithin}
 use Rattle.ca_world_servers.specs.Answering.{Answers, AreShownWithin}
@@ -151,10 +156,10 @@ module _ (k : Knows) (m : Fields) (replies : List Fields) (action : Action) (due
     | inr stray ↦ bare n replies (status_reply m bad_channel) stray.2 refl
   ]
     where
-      shown : (c : Serves k m.p1) → fault_of_read k m c ≡ None → (t : DataType) (e : Elements) → type_of m.data_type ≡ Some t → read_shown c.known.state m t ≡ Ok e → replies ≡ value_reply m (count_of e) (image t e c.known.state.meta) ∷ [] → AreWithin n replies
+      shown : (c : Serves k m.p1) → fault_of_read k m c ≡ None → (t : ImageType) (e : Elements) → image_type_of m.data_type ≡ Some t → read_shown c.known.state m t ≡ Ok e → replies ≡ value_reply m (count_of e) (image_of c.known.state.value t e c.known.state.meta) ∷ [] → AreWithin n replies
       shown c none t e typed shows are =
-          one n replies (value_reply m (count_of e) (image t e c.known.state.meta)) are
-          (fits c (rights_at k c.channel.name) t e typed (subst (λ (o : Option DataType). read_fault c.known.state (rights_at k c.channel.name) m o ≡ None) typed none) shows)
+          one n replies (value_reply m (count_of e) (image_of c.known.state.value t e c.known.state.meta)) are
+          (fits c (rights_at k c.channel.name) t e typed (subst (λ (o : Option ImageType). read_fault c.known.state (rights_at k c.channel.name) m o ≡ None) typed none) shows)
 
 -- ---- by what was read
 
@@ -187,16 +192,40 @@ module _ (core : Server) (h : Handle) (m : Fields) (n : ℕ) (read : m.command �
 
 -- ---- the size of an image
 
-module _ (r : RecordState) (m : Fields) (t : DataType) (size : ℕ) (numbered : type_number t ≡ m.data_type) (is : size ≡ size_of_image t (read_count r m)) where
-  same-type : (u : DataType) → type_of m.data_type ≡ Some u → t ≡ u
-  same-type u typed = some_is t u (sym (type-of-number t m.data_type numbered) ∙ typed)
+module _ (r : RecordState) (m : Fields) where
+  -- there is no such type
+  pub typeless : 34 < m.data_type → AreShownWithin r m 0
+  typeless over rights t e typed none shows = absurd (never t (sym (image_type-past m.data_type over) ∙ typed))
+    where
+      never : (t : ImageType) → (let none : Option ImageType = None in none ≡ Some t) → ⊥
+      never t e = cc
 
-  -- it has that size, and its padding
-  pub sized-shown : IsRecord r → AreShownWithin r m (size + 7)
-  sized-shown record_is rights u e typed none shows =
-      let kind = shown-is r.value (read_count r m) u.base e shows in
-      let len : length (image u e r.meta) ≡ size_of_image u (read_count r m) =
-      length-held u e r.meta (sym kind.0) (shown-held r.value (read_count r m) u.base e record_is.valued shows) ∙ ap (λ (n : ℕ). size_of_image u n) kind.1 in
-      let one : size ≡ size_of_image u (read_count r m) = is ∙ ap (λ (x : DataType). size_of_image x (read_count r m)) (same-type u typed) in
-      let all = length-padded (image u e r.meta) in
-      omega (arith, len, one, all)
+  third-none : (a b c d e : Bool) (v w x y z : ℕ) → first_fault ((a, v) ∷ (b, w) ∷ (c, x) ∷ (d, y) ∷ (e, z) ∷ []) ≡ None → c ≡ false
+  third-none true b c d e v w x y z is = absurd cc
+  third-none false true c d e v w x y z is = absurd cc
+  third-none false false true d e v w x y z is = absurd cc
+  third-none false false false d e v w x y z is = refl
+
+  -- it asks for too much
+  many : ((t : ImageType) → image_type_of m.data_type ≡ Some t → too_many r t (read_count r m) ≡ true) → AreShownWithin r m 0
+  many over rights t e typed none shows =
+      absurd (both_ways (too_many r t (read_count r m)) (third-none (lacks_type (display_of r.value) t) (not (may_read rights)) (too_many r t (read_count r m)) (lacks_conversion (read_shown r m t)) (has_misfit (read_shown r m t))
+      bad_type no_read_access bad_count no_convert get_fail none) (over t typed))
+
+  pub counted-over : r.count < read_count r m → AreShownWithin r m 0
+  counted-over over = many (λ t typed. over-count r t (read_count r m) over)
+
+  module _ (t : ImageType) (size : ℕ) (numbered : image_number t ≡ m.data_type) (is : size ≡ size_in t (read_count r m)) where
+    same-type : (u : ImageType) → image_type_of m.data_type ≡ Some u → t ≡ u
+    same-type u typed = some_is t u (sym (image_type-of-number t m.data_type numbered) ∙ typed)
+
+    pub sized-over : payload_limit < size → AreShownWithin r m 0
+    sized-over over = many (λ u typed. over-size r u (read_count r m) (let one : size ≡ size_in u (read_count r m) = is ∙ ap (λ (x : ImageType). size_in x (read_count r m)) (same-type u typed) in omega (arith, over, one)))
+
+    -- it has that size, and its padding
+    pub sized-shown : IsRecord r → AreShownWithin r m (size + 7)
+    sized-shown record_is rights u e typed none shows =
+        let len = length-image_of u (read_count r m) r.value e r.meta record_is.valued shows in
+        let one : size ≡ size_in u (read_count r m) = is ∙ ap (λ (x : ImageType). size_in x (read_count r m)) (same-type u typed) in
+        let all = length-padded (image_of r.value u e r.meta) in
+        omega (arith, len, one, all)

@@ -5,27 +5,28 @@ use Rattle.std.specs.Prelude.{◌%◌, ◌*◌, ◌==◌, if◌then◌else◌, m
 use Rattle.std.specs.List.{list_any}
 use Rattle.std.proofs.lemmas.Bool.{both_ways, le-ltb, lt-ltb}
 use Rattle.ca_arena.specs.declared.handle.Handle.{Handle}
-use Rattle.ca_dbr.specs.Conversion.{converted}
 use Rattle.ca_dbr.specs.Elements.{Elements}
-use Rattle.ca_dbr.specs.declared.data_type.DataType.{DataType}
+use Rattle.ca_dbr.specs.Held.{display_of}
+use Rattle.ca_display.specs.declared.image_type.ImageType.{ImageType}
+use Rattle.ca_display.specs.Types.{base_in}
+use Rattle.ca_records.specs.Rules.{may_read}
+use Rattle.ca_text.specs.Status.{add_fail, bad_count, bad_type, no_convert, no_read_access}
 use Rattle.ca_queue.specs.Circuit.{HasNone}
 use Rattle.ca_queue.specs.declared.entry.SubKey.{SubKey}
 use Rattle.ca_queue.specs.Keys.{is_among}
-use Rattle.ca_records.specs.Faults.{first_fault, lacks_conversion}
 use Rattle.ca_records.specs.Record.{RecordState}
-use Rattle.ca_records.specs.Rules.{may_read}
 use Rattle.ca_text.specs.Command.{command_number}
 use Rattle.ca_text.specs.declared.command.Command.{Command}
 use Rattle.ca_text.specs.declared.command.Command.TheVariants as command
 use Rattle.ca_text.specs.Limits.{applied_limit, circuit_queues, queue_subscriptions}
 use Rattle.ca_text.specs.Place.{At}
-use Rattle.ca_text.specs.Status.{add_fail, bad_count, no_convert, no_read_access}
 use Rattle.ca_text.proofs.Places.{some_is}
 use Rattle.ca_wire.specs.Fields.{Fields}
 use Rattle.ca_wire.specs.Messages.{mask_in}
 use Rattle.ca_model.specs.Due.{Action, Adds, Applies, Clears, Drops, Due, Greets, KnownChannel, Knows, Names, Nothing, Opens, PutTaken, Serves, Switches, Waits, fault_of_event, is_known, key_in, must_wait, rights_at, subscription_in}
 use Rattle.ca_model.specs.Ends.{Peer}
-use Rattle.ca_model.specs.Faults.{subscribed_count, subscription_fault, too_many, type_of}
+use Rattle.ca_model.specs.Faults.{subscribed_count, subscription_fault, too_many}
+use Rattle.ca_model.specs.Images.{image_type_of, lacks_conversion_to, lacks_type}
 use Rattle.ca_model.specs.Server.{Server, ServerEnd, Subscription, key_of}
 use Rattle.ca_model.specs.ServerSteps.{Handles, HasEnd, LeftOf, Next, Reaches, Records, closed, knows}
 use Rattle.ca_model.specs.World.{Joined}
@@ -37,6 +38,7 @@ use Rattle.ca_world_data.specs.Numbering.{AreAlike, keys_on}
 use Rattle.ca_world_servers.specs.declared.coming.Coming.{Coming}
 use Rattle.ca_world_servers.specs.Coming.{Foresees, IsComing, busies_by}
 use Rattle.ca_world_servers.specs.Effects.{BeginsNew, IsWrite, busies_in, wrote_by, wrote_in}
+use Rattle.ca_server_circuit.proofs.Could.{faultless-6}
 use Rattle.ca_world_servers.specs.Losing.{AreSeated}
 
 -- ---- what is due, by what it does
@@ -280,18 +282,12 @@ or-right : (a b : Bool) → a || b ≡ false → b ≡ false
 or-right true b e = absurd cc
 or-right false b e = e
 
-second-none : (a b c d e : Bool) (v w x y z : ℕ) → first_fault ((a, v) ∷ (b, w) ∷ (c, x) ∷ (d, y) ∷ (e, z) ∷ []) ≡ None → b ≡ false
-second-none true b c d e v w x y z is = absurd cc
-second-none false true c d e v w x y z is = absurd cc
-second-none false false c d e v w x y z is = refl
-
-unused : (r : RecordState) (rights others : ℕ) (b : Bool) (m : Fields) (t : Option DataType) → subscription_fault r rights b others m t ≡ None → b ≡ false
+unused : (r : RecordState) (rights others : ℕ) (b : Bool) (m : Fields) (t : Option ImageType) → subscription_fault r rights b others m t ≡ None → b ≡ false
 unused r rights others b m None is = absurd cc
 unused r rights others b m (Some t) is =
-    let either : nat_lt (length m.payload) 16 || (mask_in m % 16 == 0 || b) ≡ false =
-    second-none (not (may_read rights)) (nat_lt (length m.payload) 16 || (mask_in m % 16 == 0 || b)) (too_many r t (subscribed_count r m)) (lacks_conversion (converted r.value t.base))
-    (not (nat_lt others (circuit_queues * queue_subscriptions))) no_read_access add_fail bad_count no_convert add_fail is in
-    or-right (mask_in m % 16 == 0) b (or-right (nat_lt (length m.payload) 16) (mask_in m % 16 == 0 || b) either)
+    let asked : (nat_lt (length m.payload) 16 || (mask_in m % 16 == 0 || b)) ≡ false = (faultless-6 (lacks_type (display_of r.value) t) (not (may_read rights)) (nat_lt (length m.payload) 16 || (mask_in m % 16 == 0 || b)) (too_many r t (subscribed_count r m)) (lacks_conversion_to (display_of r.value) r.value (base_in t))
+    (not (nat_lt others (circuit_queues * queue_subscriptions))) bad_type no_read_access add_fail bad_count no_convert add_fail is).0 in
+    or-right (mask_in m % 16 == 0) b (or-right (nat_lt (length m.payload) 16) (mask_in m % 16 == 0 || b) asked)
 
 -- its key is that of no subscription of the end
 news-key : (k : Knows) (m : Fields) (replies : List Fields) (s : Subscription) → Due k m replies (Adds s) → is_among (key_of s) k.keys ≡ false
@@ -303,7 +299,7 @@ news-key k m replies s due = due-cases k m replies (Adds s) (is_among (key_of s)
   clears = λ n is. absurd cc;
   adds = λ n c none is. (let one : s ≡ subscription_in m c.channel.name = cc in
       ap (λ (x : Subscription). is_among (key_of x) k.keys) one
-      ∙ unused c.known.state (rights_at k c.channel.name) (length k.keys) (is_among (key_in m) k.keys) m (type_of m.data_type) none);
+      ∙ unused c.known.state (rights_at k c.channel.name) (length k.keys) (is_among (key_in m) k.keys) m (image_type_of m.data_type) none);
   drops = λ n is. absurd cc;
   off = λ n is. absurd cc;
   on = λ n is. absurd cc;

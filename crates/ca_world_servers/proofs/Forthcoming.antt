@@ -24,7 +24,7 @@ use Rattle.ca_text.specs.declared.refusal.Refusal.{Refusal}
 use Rattle.ca_text.specs.declared.refusal.Refusal.TheVariants as refusal
 use Rattle.ca_wire.specs.Fields.{Fields}
 use Rattle.ca_model.specs.Due.{KnownRecord, Knows, PutTaken, Serves}
-use Rattle.ca_model.specs.Faults.{base_type_of, base_types}
+use Rattle.ca_model.specs.Images.{base_type_of, base_types}
 use Rattle.ca_model.specs.Server.{Server, ServerEnd}
 use Rattle.ca_model.specs.ServerSteps.{HasEnd, known_record, knows}
 use Rattle.ca_server_core.specs.Asking.{NamesUnder, state_in}

@@ -5,7 +5,7 @@ ghost use Rattle.ca_model.specs.Faults.{read_count};
 ghost use Rattle.ca_world_servers.specs.Answering.{Answers, AreShownWithin};
 
 use ca_arena::Handle;
-use ca_dbr::image_size;
+use ca_display::display_size;
 use ca_records::Record;
 use ca_server_core::ServerCore;
 use ca_text::{Command, PAYLOAD_LIMIT};
@@ -42,7 +42,7 @@ fn shown_size(of: &Record, message: &Message) -> usize
     if count > of.count() {
         return 0;
     }
-    let Ok(size) = image_size(message.data_type(), count) else {
+    let Ok(size) = display_size(message.data_type(), count) else {
         return 0;
     };
     if size > PAYLOAD_LIMIT {

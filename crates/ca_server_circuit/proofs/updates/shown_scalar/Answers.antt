@@ -1,11 +1,10 @@
-use Rattle.std.proofs.Common.{arith}
+use Rattle.std.proofs.Common.{◌∙◌, ap, arith}
 use Rattle.ca_dbr.specs.Elements.{elements}
-use Rattle.ca_display.proofs.Holdings.{scalar-held}
+use Rattle.ca_dbr.specs.Held.{bare}
 use Rattle.ca_server_circuit.proofs.Pumps.{if-scalar}
 use Rattle.ca_server_circuit.proofs.updates.shown_scalar.Goals as goal
 
 pub returns : goal.returns
 returns c =
     let few = c.if-wanted-gt1.false in
-    if-scalar c.args.wanted.now c.args.shown.now _ c.scalar.result (omega (arith, few)) c.held.ensures.held
-    (scalar-held c.held.result.now (elements c.value.result.now) c.scalar.result _ c.value.ensures.value c.scalar.ensures.some)
+    if-scalar c.args.wanted.now c.args.shown.now (elements c.value.result.now) c.scalar.result (omega (arith, few)) (c.value.ensures.bare ∙ ap bare c.held.ensures.held) c.scalar.ensures.some

@@ -1,5 +1,4 @@
-use Rattle.std.proofs.Common.{◌^◌, ◌<◌, ◌≡◌, All, length, List, ℕ, subst, ◌∙◌, rules}
-use Rattle.ca_display.specs.Data.{limits_of}
+use Rattle.std.proofs.Common.{◌^◌, ◌<◌, All, List, ℕ, subst, rules}
 use Rattle.ca_display.proofs.display.Display.know.Goals as goal
 
 pub returns : goal.returns

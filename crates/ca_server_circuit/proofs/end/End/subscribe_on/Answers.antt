@@ -1,7 +1,8 @@
 use Rattle.std.proofs.Common.{◌≡◌, Bool, List, ℕ, None, Option, Some, subst}
 use Rattle.ca_records.specs.Record.{RecordState}
 use Rattle.ca_wire.specs.Fields.{Fields}
-use Rattle.ca_model.specs.Faults.{subscription_fault, type_of}
+use Rattle.ca_model.specs.Faults.{subscription_fault}
+use Rattle.ca_model.specs.Images.{image_type_of}
 use Rattle.ca_server_circuit.specs.Handling.{Subscribes, known}
 use Rattle.ca_server_circuit.specs.Subscribing.{HasJoined}
 use Rattle.ca_server_circuit.specs.Stepping.{first_at, message_of}
@@ -10,7 +11,7 @@ use Rattle.ca_server_circuit.proofs.Replying.{refused-event, right-is, state-is}
 use Rattle.ca_server_circuit.proofs.end.End.subscribe_on.Goals as goal
 
 abbrev FaultIs : RecordState → ℕ → Bool → ℕ → Option ℕ → Fields → Type 0
-FaultIs r bits used others o m = subscription_fault r bits used others m (type_of m.data_type) ≡ o
+FaultIs r bits used others o m = subscription_fault r bits used others m (image_type_of m.data_type) ≡ o
 
 pub returns-in_ok-join-in-None-clause-ok : goal.returns-in_ok-join-in-None-clause-ok
 returns-in_ok-join-in-None-clause-ok c port h =

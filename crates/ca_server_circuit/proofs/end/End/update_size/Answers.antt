@@ -11,5 +11,5 @@ returns-in_default c =
 
 pub returns : goal.returns
 returns c =
-    subst (λ (e : ServerEnd). SizesAt (events_of e) c.args.place c.args.index (Some c.shown_size.result)) c.self.view_is
-    (sizes-one c.self.inside.subscriptions c.args.place c.args.index c.in-Some.wanted c.in-Some.update.now c.shown_size.result c.in-Some.ensures.gives c.shown_size.ensures)
+    subst (λ (e : ServerEnd). SizesAt (events_of e) c.args.place c.args.index (Some c.payload_size.result)) c.self.view_is
+    (sizes-one c.self.inside.subscriptions c.args.place c.args.index c.in-Some.wanted c.in-Some.update.now c.payload_size.result c.in-Some.ensures.gives c.payload_size.ensures)

@@ -16,4 +16,4 @@ invariant_of-self-2 c = record {
 pub returns : goal.returns
 returns c =
     let i = c.self.inside in
-    rw c.of.ensures at (adds-ok i.records c.add.new.self _ c.in_ok-add.field-0 c.in_ok-add.ensures c.args.self.now i.port i.moment i.applied i.beacons i.circuits c.self.view_is)
+    adds-ok i.records c.add.new.self _ c.in_ok-add.field-0 c.in_ok-add.ensures c.args.self.now i.port i.moment i.applied i.beacons i.circuits c.self.view_is

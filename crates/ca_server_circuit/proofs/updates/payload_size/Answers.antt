@@ -2,14 +2,14 @@ use Rattle.std.proofs.Common.{◌≤◌, subst, arith}
 use Rattle.ca_text.specs.Limits.{payload_limit}
 use Rattle.ca_dbr.specs.Elements.{Elements}
 use Rattle.ca_dbr.specs.Held.{IsHeldValue}
-use Rattle.ca_dbr.specs.Types.{size_of_image}
-use Rattle.ca_server_circuit.proofs.Pumps.{small-image}
+use Rattle.ca_display.specs.Image.{size_in}
+use Rattle.ca_model.proofs.Showing.{size_in-small}
 use Rattle.ca_server_circuit.proofs.Sizes.{shows-within}
-use Rattle.ca_server_circuit.proofs.updates.shown_size.Goals as goal
+use Rattle.ca_server_circuit.proofs.updates.payload_size.Goals as goal
 
 pub overflow_add-result : goal.overflow_add-result
 overflow_add-result c =
-    let small : size_of_image c.in-Ok.ensures.0 c.count_for-count.result ≤ payload_limit = small-image c.in-Ok.ensures.0 c.count_for-count.result c.count_for-count.ensures.limit in
+    let small : size_in c.in-Ok.ensures.0 c.count_for-count.result ≤ payload_limit = size_in-small c.in-Ok.ensures.0 c.count_for-count.result c.count_for-count.ensures.limit in
     let is = c.in-Ok.ensures.2 in
     omega (arith, small, is)
 
