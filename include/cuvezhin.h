@@ -43,7 +43,7 @@ extern "C" {
 /* ---- the version */
 
 #define CVZ_VERSION_MAJOR 1
-#define CVZ_VERSION_MINOR 2
+#define CVZ_VERSION_MINOR 3
 
 /* The version of the library: 65,536 times its first number, and its second. A library serves each program whose header has the same first
  * number, and a second one that is not greater: calls are added, and none changes or goes. */
@@ -91,11 +91,22 @@ enum {
  *   STRING 0: 40 bytes each, zero-filled      INT 1: 2 bytes      FLOAT 2: 4      ENUM 3: 2      CHAR 4: 1      LONG 5: 4      DOUBLE 6: 8
  *   7 to 13: the same with status and severity, 2 bytes each, and padding      14 to 20: with a time stamp too, seconds since 1990 and
  *   nanoseconds, 4 bytes each, and padding
+ *
+ * Since 1.3 cvz_server_add, and it alone, also takes images with display data, 21 to 34. They begin with status and severity, 2 bytes each, and then have
+ *
+ *   INT, CHAR, LONG: the units, 8 bytes, zero-filled; limits of the type; of CHAR a byte of padding
+ *   FLOAT, DOUBLE: the precision, 2 bytes; 2 of padding; units and limits
+ *   ENUM: the number of states, 2 bytes; the names of 16 states, 26 bytes each, zero-filled
+ *   STRING: nothing
+ *
+ * The limits are 6: upper and lower of display, upper alarm, upper and lower warning, lower alarm. From 28 on upper and lower of control follow.
  */
 enum {
     CVZ_STRING = 0, CVZ_INT = 1, CVZ_FLOAT = 2, CVZ_ENUM = 3, CVZ_CHAR = 4, CVZ_LONG = 5, CVZ_DOUBLE = 6,
     CVZ_STS = 7,                     /* added to one of these: with status and severity */
-    CVZ_TIME = 14                    /* added to one of these: with a time stamp too */
+    CVZ_TIME = 14,                   /* added to one of these: with a time stamp too */
+    CVZ_GRAPHIC = 21,                /* added to one of these: with display data. Since 1.3 */
+    CVZ_CONTROL = 28                 /* added to one of these: with limits of control too. Since 1.3 */
 };
 
 /* An IPv4 address, its first number in the highest byte, and a port: both as numbers of this machine. */
@@ -162,8 +173,9 @@ int32_t cvz_server_load(cvz_server *server, uint16_t port, uint64_t now, const u
 void cvz_server_free(cvz_server *server);
 
 /* Serves one more record: its name, the greatest count of elements, whether it is slow (a put with notification makes it busy, until
- * cvz_server_finish), and its value, an image of one of the types 0 to 6.
- * 0, CVZ_BAD_TYPE, CVZ_SHORT, CVZ_NAME_LENGTH, CVZ_RECORD_EXISTS, CVZ_BAD_COUNT or CVZ_OUT_OF_MEMORY. */
+ * cvz_server_finish), and its value, an image of one of the types 0 to 6. Since 1.3 that may be of a type from 21 to 34: then the record also has
+ * the display data of the image, which clients read in these types; what the image lacks is zero or empty. Status and severity are not taken.
+ * 0, CVZ_BAD_TYPE, CVZ_SHORT, CVZ_NAME_LENGTH, CVZ_RECORD_EXISTS, CVZ_BAD_COUNT (also for over 16 states) or CVZ_OUT_OF_MEMORY. */
 int32_t cvz_server_add(cvz_server *server, const uint8_t *name, size_t name_size, uint32_t greatest, bool slow, uint16_t type, uint32_t count,
                        const uint8_t *image, size_t image_size);
 

@@ -370,6 +370,83 @@ static void loads(void)
     IS(cvz_server_remove(&server, T("SETP")), CVZ_UNKNOWN_RECORD);
 }
 
+/* What an input/output controller of EPICS Base 7.0.3.1 sent of an `ao` with display data, in each type: see crates/ca_tests/src/display.rt. */
+static const struct { unsigned type; const char *image; } recorded[] = {
+    {21, "00000000 322e3735 30000000 00000000 00000000 00000000 00000000 00000000 00000000 00000000 00000000"},
+    {22, "00000000 6d412f73 00000000 0064ffec 005a0050 fff6fff1 0002"},
+    {23, "00000000 00030000 6d412f73 00000000 42c90000 c1a20000 42b50000 42a08000 c1280000 c17c0000 40300000"},
+    {25, "00000000 6d412f73 00000000 64ec5a50 f6f10002"},
+    {26, "00000000 6d412f73 00000000 00000064 ffffffec 0000005a 00000050 fffffff6 fffffff1 00000002"},
+    {27, "00000000 00030000 6d412f73 00000000 40592000 00000000 c0344000 00000000 4056a000 00000000 40541000 00000000 c0250000 00000000 "
+         "c02f8000 00000000 40060000 00000000"},
+    {28, "00000000 322e3735 30000000 00000000 00000000 00000000 00000000 00000000 00000000 00000000 00000000"},
+    {29, "00000000 6d412f73 00000000 0064ffec 005a0050 fff6fff1 005fffee 0002"},
+    {30, "00000000 00030000 6d412f73 00000000 42c90000 c1a20000 42b50000 42a08000 c1280000 c17c0000 42be4000 c1908000 40300000"},
+    {32, "00000000 6d412f73 00000000 64ec5a50 f6f15fee 0002"},
+    {33, "00000000 6d412f73 00000000 00000064 ffffffec 0000005a 00000050 fffffff6 fffffff1 0000005f ffffffee 00000002"},
+    {34, "00000000 00030000 6d412f73 00000000 40592000 00000000 c0344000 00000000 4056a000 00000000 40541000 00000000 c0250000 00000000 "
+         "c02f8000 00000000 4057c800 00000000 c0321000 00000000 40060000 00000000"},
+    {CVZ_STRING, "322e3735 30000000 00000000 00000000 00000000 00000000 00000000 00000000 00000000 00000000"},
+    {CVZ_ENUM, "0002"}, {CVZ_LONG, "00000002"}, {CVZ_DOUBLE, "40060000 00000000"}
+};
+
+/* A READ_NOTIFY of one element of SID 65536, and the reply. */
+static void is_read(uint64_t circuit, unsigned type, const char *image)
+{
+    char text[4096];
+    uint8_t bytes[4096];
+    const size_t size = unhex(image, bytes), padded = (size + 7) / 8 * 8;
+    snprintf(text, sizeof text, "000f0000 %04x0001 00010000 00000009", type);
+    give(circuit, text);
+    STEP(circuit, CVZ_QUIET, 0, 0);
+    snprintf(text, sizeof text, "000f%04x %04x0001 00000001 00000009 %s", (unsigned)padded, type, image);
+    for (size_t at = size; at < padded; at++)
+        strcat(text, " 00");
+    OUTPUT(circuit, text);
+}
+
+/* Records with display data: that of which the images were recorded, and one of three states; and images that are refused. */
+static void displays(void)
+{
+    uint64_t circuit;
+    uint8_t gain[88], state[424] = {0, 7, 0, 1, 0, 3};
+    IS(unhex(recorded[11].image, gain), 88);
+    memcpy(state + 6, "off", 3);
+    memcpy(state + 32, "on", 2);
+    memcpy(state + 58, "failed, but still running", 25);
+    state[423] = 1;
+    IS(cvz_server_add(&server, T("GAIN"), 1, false, CVZ_CONTROL + CVZ_DOUBLE, 1, gain, 87), CVZ_SHORT);
+    IS(cvz_server_add(&server, T("GAIN"), 1, false, CVZ_CONTROL + CVZ_DOUBLE, 2, gain, 88), CVZ_SHORT);
+    IS(cvz_server_add(&server, T("GAIN"), 1, false, 35, 1, gain, 88), CVZ_BAD_TYPE);
+    IS(cvz_server_add(&server, T(""), 1, false, CVZ_CONTROL + CVZ_DOUBLE, 1, gain, 88), CVZ_NAME_LENGTH);
+    IS(cvz_server_add(&server, T("GAIN"), 1, false, CVZ_CONTROL + CVZ_DOUBLE, 1, gain, 88), 0);
+    IS(cvz_server_add(&server, T("GAIN"), 1, false, CVZ_CONTROL + CVZ_DOUBLE, 1, gain, 88), CVZ_RECORD_EXISTS);
+    IS(cvz_server_add(&server, T("STATE"), 1, true, CVZ_GRAPHIC + CVZ_ENUM, 1, state, sizeof state), 0);
+    VALUE("STATE", CVZ_STS + CVZ_ENUM, 0, 1, "00000000 0001");
+    state[5] = 17;
+    IS(cvz_server_add(&server, T("NONE"), 1, false, CVZ_CONTROL + CVZ_ENUM, 1, state, sizeof state), CVZ_BAD_COUNT);
+    state[5] = 3;
+    VALUE("NONE", CVZ_ENUM, CVZ_UNKNOWN_RECORD, 0, "");
+    IS(cvz_server_accept(&server, &circuit), 0);
+    give(circuit, "00120008 00000000 00000001 0000000d 4741494e 00000000");
+    STEP(circuit, CVZ_CREATED, 65536, 0);
+    OUTPUT(circuit, "00160000 00000000 00000001 00000003  00120000 00060001 00000001 00010000");
+    for (size_t at = 0; at < sizeof recorded / sizeof recorded[0]; at++)
+        is_read(circuit, recorded[at].type, recorded[at].image);
+    IS(cvz_server_post(&server, T("GAIN"), CVZ_MASK_VALUE, CVZ_CONTROL + CVZ_DOUBLE, 1, gain, 88), CVZ_BAD_TYPE);
+    IS(cvz_server_accept(&server, &circuit), 0);
+    give(circuit, "00120008 00000000 00000001 0000000d 53544154 45000000");
+    STEP(circuit, CVZ_CREATED, 65536, 0);
+    OUTPUT(circuit, "00160000 00000000 00000001 00000003  00120000 00030001 00000001 00010000");
+    is_read(circuit, CVZ_STRING, "6f6e0000 00000000 00000000 00000000 00000000 00000000 00000000 00000000 00000000 00000000");
+    give(circuit, "000f0000 001f0001 00010000 00000009");
+    STEP(circuit, CVZ_QUIET, 0, 0);
+    IS(cvz_server_output(&server, circuit, room, sizeof room), 16 + 424);
+    memset(state, 0, 4);               /* status and severity were not taken */
+    IS(memcmp(room, "\0\17\1\250\0\37\0\1\0\0\0\1\0\0\0\11", 16) == 0 && memcmp(room + 16, state, sizeof state) == 0, 1);
+    IS(cvz_server_sent(&server, circuit, 16 + 424), 0);
+}
+
 int main(int argc, char **argv)
 {
     uint64_t circuit = 0;
@@ -388,6 +465,7 @@ int main(int argc, char **argv)
     datagrams();
     ends(circuit);
     loads();
+    displays();
     if (argc > 1)
         cvz_server_beacon(&server, 1000, malloc(8), 16);
     IS(cvz_server_new(&server, 5065, 0), 0);

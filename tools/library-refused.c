@@ -79,13 +79,21 @@ static bool refused_any(const int *answers)
     return false;
 }
 
+/* A record with display data is added, and removed if it is there. Answers what the first of these did. */
+static int shown(cvz_server *server, uint16_t type, const uint8_t *image, size_t size)
+{
+    const int answer = cvz_server_add(server, T("SHOWN"), 1, false, type, 1, image, size);
+    return cvz_server_remove(server, T("SHOWN")) == (answer == 0 ? 0 : CVZ_UNKNOWN_RECORD) ? answer : 4;
+}
+
 /* All calls once. Answers how many found no memory, or -1 if one answered anything else. */
 static int run(cvz_server *server)
 {
     static uint8_t room[65536];
     const uint8_t image[8] = {0, 0, 0, 21};
+    static const uint8_t gain[88], state[424] = {0, 0, 0, 0, 0, 2, 'o', 'f', 'f', [32] = 'o', 'n'};
     uint64_t circuit;
-    int answers[13] = {0}, refused = 0;
+    int answers[15] = {0}, refused = 0;
     size_t size = 7;
     uint32_t count = 7;
     answers[0] = cvz_server_load(server, 5064, 0, T("record SLOW LONG 1 slow 5\nrule me * SLOW rw\n"));
@@ -116,8 +124,10 @@ static int run(cvz_server *server)
                 answers[12] = 3;       /* neither asks for memory */
         }
         answers[9] = cvz_server_remove(server, T("TEMP"));
+        answers[13] = shown(server, CVZ_CONTROL + CVZ_DOUBLE, gain, sizeof gain);
+        answers[14] = shown(server, CVZ_GRAPHIC + CVZ_ENUM, state, sizeof state);
     }
-    for (int i = 0; i < 13; i++) {
+    for (int i = 0; i < 15; i++) {
         if (answers[i] != 0 && answers[i] != 1 && answers[i] != CVZ_OUT_OF_MEMORY)
             return printf("answer %d is %d\n", i, answers[i]), -1;
         refused += answers[i] != 0;

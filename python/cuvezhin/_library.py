@@ -8,13 +8,13 @@ from .errors import LibraryMissing, Refused
 
 NAME = "libcuvezhin.so.1"
 # The interface that the package needs: one with this first number, and at least this second one.
-MAJOR, MINOR = 1, 2
+MAJOR, MINOR = 1, 3
 
 NEEDS_BYTES, HANDLED, OUTPUT_FULL, CLOSED = range(4)
 QUIET, WROTE, BUSIED, QUEUED, REFUSED, CREATED, CLEARED, SUBSCRIBED, CANCELLED, EVENTS_OFF, EVENTS_ON, WRITE_REFUSED = range(12)
 NOTICE_LIVE, NOTICE_LOST, NOTICE_COMPLETED, NOTICE_UPDATE, NOTICE_ENDED, NOTICE_WRITE_REFUSED = range(1, 7)
 VALUE, DONE, FAILED, UNREADABLE, LOST = range(5)
-TIME = 14
+TIME, CONTROL = 14, 28
 # Bytes that an object hands over at once, or more after a larger value.
 ROOM = 1 << 16
 

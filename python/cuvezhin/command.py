@@ -12,7 +12,7 @@ import tomllib
 from collections.abc import Callable
 from typing import Any, Optional, TextIO, Union
 
-from . import Client, Error, Put, Reading, Record, RefusedPut, Server, Type
+from . import Client, Error, Limits, Put, Reading, Record, RefusedPut, Server, Type
 from .values import Value, plain
 
 EXAMPLE = """a file of records, in TOML (or the same in JSON):
@@ -24,6 +24,12 @@ EXAMPLE = """a file of records, in TOML (or the same in JSON):
   type = "DOUBLE"           STRING, INT, FLOAT, ENUM, CHAR, LONG or DOUBLE; that of the value by default
   value = [1, 2, 3]
   count = 100               the greatest count of elements
+  units = "mm"              shown beside a number, as precision (of FLOAT and DOUBLE) and limits
+  precision = 2
+  limits = { display = [0, 50], alarm = [5, 45], warning = [10, 40], control = [0, 40] }
+  [records.MODE]
+  value = 1
+  states = ["off", "on"]    the names of an ENUM
 """
 ENVIRONMENT = """without --server and --name-server the variables of EPICS say where is searched: EPICS_CA_ADDR_LIST, EPICS_CA_AUTO_ADDR_LIST,
 EPICS_CA_NAME_SERVERS and EPICS_CA_SERVER_PORT. The status is 0 if all was done, 1 if something failed, and 2 if the words are not understood.
@@ -187,11 +193,14 @@ def records_of(path: str) -> tuple[list[Record], list[str]]:
 
 def record_of(path: str, name: str, row: Any) -> Record:
     try:
-        extra = set(row) - {"type", "value", "count"}
+        given = row.get("limits", {})
+        extra = set(row) - {"type", "value", "count", "units", "precision", "limits", "states"} | set(given) - set(Limits._fields)
         if extra:
             raise ValueError(f"{', '.join(sorted(extra))} is not understood")
         kind = Type[row["type"]] if "type" in row else None
-        return Record(name, row["value"], type=kind, count=row.get("count"))
+        limits = Limits(**given) if "limits" in row else None
+        return Record(name, row["value"], type=kind, count=row.get("count"), units=row.get("units"), precision=row.get("precision"), limits=limits,
+                      states=row.get("states"))
     except (KeyError, TypeError, ValueError) as error:
         what = f"no {error}" if isinstance(error, KeyError) else error
         raise ValueError(f"{path}: {name}: {what}") from error

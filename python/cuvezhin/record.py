@@ -3,9 +3,10 @@ import asyncio
 import inspect
 import time
 from collections import Counter, deque
-from collections.abc import Awaitable, Callable
+from collections.abc import Awaitable, Callable, Sequence
 from typing import Any, NamedTuple, Optional, Union
 
+from .display import Limits, display_image
 from .values import Mask, Type, Value, elements, kind_of, plain, reading, stamped
 
 
@@ -53,19 +54,34 @@ class Record:
              when the coroutine is done, and the next such put is applied then. What it raises goes to the loop's exception handler
     slow     says whether it is slow, if `on_put` does not
 
-    Raises ValueError if the value is of no type, or not of this one.
+    Its display data, which clients read in graphic and control types:
+
+    units      of a number: 7 bytes at most
+    precision  of a FLOAT or DOUBLE: how many digits are shown after the point
+    limits     of a number: Limits
+    states     of an ENUM, which is the type then if no other is given: the names of its states from 0 on, 16 at most, of 25 bytes at most
+
+    Raises ValueError if the value is of no type, or not of this one, and if its type has no such display data, or they do not fit.
     """
 
     def __init__(self, name: str, value: Any, *, type: Optional[Type] = None, count: Optional[int] = None, on_put: Optional[OnPut] = None,
-                 slow: Optional[bool] = None) -> None:
+                 slow: Optional[bool] = None, units: Optional[str] = None, precision: Optional[int] = None, limits: Optional[Limits] = None,
+                 states: Optional[Sequence[str]] = None) -> None:
         self.name = name
-        self.type = kind_of(value) if type is None else Type(type)
+        if type is None:
+            type = kind_of(value) if states is None else Type.ENUM
+        self.type = Type(type)
         self.on_put = on_put
         self.slow = _is_coroutine(on_put) if slow is None else slow
         many, image = elements(self.type, value)
         self.count = many if count is None else count
         if not 0 < many <= self.count:
             raise ValueError(f"{name}: {many} elements, of {self.count} at most")
+        self.units, self.precision, self.limits, self.states = units, precision, limits, states
+        try:
+            self._display = display_image(self.type, units, precision, limits, states)
+        except ValueError as error:
+            raise ValueError(f"{name}: {error}") from error
         self._server: Any = None
         self._take(many, memoryview(stamped(self.type, image, 0, 0, *now())))
         # The circuits that subscribed to it, how often, and puts that wait for its callback.

@@ -198,7 +198,9 @@ class Server:
             raise ValueError(f"{record.name} is served already")
         core, name, value = self._core, record.name.encode("utf-8", "surrogateescape"), record.reading
         many, image = elements(record.type, value.value)
-        lib.checked(core.call_add(core.at, name, len(name), record.count, record.slow, record.type, many, image, len(image)), record.name)
+        # A control image begins with status and severity.
+        kind, first = (record.type, image) if record._display is None else (lib.CONTROL + record.type, bytes(4) + record._display + image)
+        lib.checked(core.call_add(core.at, name, len(name), record.count, record.slow, kind, many, first, len(first)), record.name)
         full = stamped(record.type, image, value.status, value.severity, value.seconds, value.nanoseconds)
         core.call_post(core.at, name, len(name), EVERY_CHANGE, lib.TIME + record.type, many, full, len(full))
         self._records[record.name] = record

@@ -118,6 +118,22 @@ def restarted():
     return [is_back, connections[-2:], pv.put(78, wait=True, timeout=20), pv.get(timeout=20, use_monitor=False)]
 
 
+def shown(name):
+    """What a PV says of limits, units and precision, or of states: no number is None."""
+    pv = epics.PV(name)
+    pv.wait_for_connection(20)
+    its = pv.get_ctrlvars(timeout=20)
+    limits = [its.get(f"{end}_{of}_limit") for of in ("disp", "alarm", "warning", "ctrl") for end in ("lower", "upper")]
+    return [pv.units, pv.precision, [None if it != it else it for it in limits], list(pv.enum_strs or []), pv.get(as_string=True, timeout=20)]
+
+
+def state_by_name():
+    """A state is put by its name, and read as a number and as a text."""
+    pv = epics.PV("SHOWN_STATES")
+    pv.wait_for_connection(20)
+    return [pv.put("off", wait=True, timeout=20), pv.get(timeout=20, use_monitor=False), pv.get(as_string=True, timeout=20)]
+
+
 order = opened("DO")
 for name, new in json.load(sys.stdin):
     channel = opened(name)
@@ -139,6 +155,9 @@ note("two slow", two_slow)
 note("a callback that fails", lambda: [put(opened("WRONG"), 9), plain(ca.get(opened("WRONG"), timeout=20))])
 note("a put without callback", lambda: [ca.put(opened("MASKED"), 9), until(lambda: plain(ca.get(opened("MASKED"), timeout=20)) == 9)])
 note("a LONG as text", lambda: ca.get(opened("MASKED"), as_string=True, timeout=20))
+for name in ("INT", "CHAR", "LONG", "FLOAT", "DOUBLE", "PRECISION", "STATES"):
+    note(f"{name} shown", lambda: shown(f"SHOWN_{name}"))
+note("a state by its name", state_by_name)
 note("FIXED", lambda: [ca.read_access(opened("FIXED")), ca.write_access(opened("FIXED"))])
 note("nobody", lambda: ca.connect_channel(ca.create_channel("NOBODY", auto_cb=False), timeout=0.5))
 if "--restart" in sys.argv:

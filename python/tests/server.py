@@ -9,7 +9,7 @@ import asyncio
 import json
 import sys
 
-from cuvezhin import Put, Record, Server, Type
+from cuvezhin import Limits, Put, Record, Server, Type
 from cuvezhin.values import plain
 
 # A record of each type and an array of each: tools/python has what they are to be.
@@ -44,6 +44,10 @@ done = Record("DONE", 0)
 records = [Record(name, value, type=Type[name]) for name, value in SCALARS.items()]
 records += [Record(f"{name}_ARRAY", value, type=Type[name], count=5) for name, value in ARRAYS.items()]
 records += [Record("WAVE", [7], count=1000), Record("SLOW", 3, on_put=slow), Record("WRONG", 3, on_put=wrong), Record("MASKED", 1), Record("FIXED", 1)]
+records += [Record(f"SHOWN_{name}", 7, type=Type[name], units="mA/s", limits=Limits((0, 100), (5, 90), (10, 80), (1, 95))) for name in ("INT", "CHAR", "LONG")]
+wide = Limits(display=(-20.25, 100.5), alarm=(-15.75, 90.5), warning=(-10.5, 80.25), control=(-18.0625, 95.125))
+records += [Record(f"SHOWN_{name}", 2.75, type=Type[name], units="mA/s", precision=3, limits=wide) for name in ("FLOAT", "DOUBLE")]
+records += [Record("SHOWN_PRECISION", 1.26, precision=1), Record("SHOWN_STATES", 1, states=["off", "on", "failed, but still running"])]
 records += [Record("TEXT", b"hi", type=Type.CHAR, count=100), done, Record("DO", "nothing", on_put=order)]
 all_records = {it.name: it for it in records}
 ended = asyncio.Event()

@@ -5,15 +5,19 @@ use Rattle.ca_arena.specs.declared.handle.Handle.{Handle}
 use Rattle.ca_text.specs.declared.refusal.Refusal.{Refusal}
 use Rattle.ca_dbr.specs.declared.data_type.DataType.{DataType}
 use Rattle.ca_dbr.specs.declared.value.Meta.{Meta}
+use Rattle.ca_dbr.specs.Display.{DisplayData}
 use Rattle.ca_dbr.specs.Elements.{Elements}
 use Rattle.ca_dbr.specs.Image.{Writes}
 use Rattle.ca_dbr.specs.Reading.{Reads}
 use Rattle.ca_dbr.specs.Types.{type_number}
+use Rattle.ca_display.specs.Reading.{ReadsDisplay}
+use Rattle.ca_display.specs.Types.{display_number}
+use Rattle.ca_display.specs.declared.display_type.DisplayType.{DisplayType}
 use Rattle.ca_text.specs.Refusal.{refusal_number}
 
--- the version of the interface: 1.2
+-- the version of the interface: 1.3
 abbrev pub version : ℕ
-version = 65538
+version = 65539
 
 -- what a call on a struct with no object answers
 abbrev pub no_object : ℤ
@@ -87,3 +91,10 @@ ShowsValue number value meta n size_before size_after before after =
 abbrev pub IsImage : (number count : ℕ) → (image : List ℕ) → Elements → Meta → Type 0
 IsImage number count image value meta =
     (form : DataType) × (type_number form ≡ number) × Reads form count image value meta
+
+-- the image is that of this value with this metadata and these display data
+abbrev pub IsDisplayImage : (number count : ℕ) → (image : List ℕ) → Elements → Meta → DisplayData
+    → Type 0
+IsDisplayImage number count image value meta display =
+    (form : DisplayType)
+    × (display_number form ≡ number) × ReadsDisplay form count image value meta display

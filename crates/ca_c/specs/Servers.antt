@@ -1,14 +1,16 @@
 -- Vocabulary: what each call of C does to a server: the contract of the call of `ServerCore` that
 -- it makes, with the number that it answers.
-use Rattle.std.specs.Prelude.{ℕ, ℤ, pos, ◌≡◌, ◌<◌, ◌⊎◌, ◌++◌, ◌+◌, Bool, false, IfErr, List, []}
-use Rattle.std.specs.Prelude.{Option, Some, None, Result, Ok, Err, drop, if◌then◌else◌, is_some}
+use Rattle.std.specs.Prelude.{ℕ, ℤ, pos, ◌≡◌, ◌<◌, ◌≤◌, ◌⊎◌, ◌++◌, ◌+◌, Bool, false, IfErr, List}
+use Rattle.std.specs.Prelude.{[], Option, Some, None, Result, Ok, Err, drop, if◌then◌else◌, is_some}
 use Rattle.std.specs.Prelude.{length, map, min, option_map, slice_get, take}
 use Rattle.ca_arena.specs.declared.handle.Handle.{Handle}
 use Rattle.ca_dbr.specs.declared.value.Meta.{Meta}
-use Rattle.ca_dbr.specs.Elements.{Elements, base_of, count_of}
+use Rattle.ca_dbr.specs.Display.{DisplayData}
+use Rattle.ca_dbr.specs.Elements.{Elements, base_of, count_of, displayed}
 use Rattle.ca_dbr.specs.Held.{bare, displayed_by}
 use Rattle.ca_dbr.specs.Reading.{ReadRefused}
 use Rattle.ca_dbr.specs.Types.{base_number}
+use Rattle.ca_display.specs.Reading.{DisplayRefused}
 use Rattle.ca_ids.specs.Table.{has_free, under}
 use Rattle.ca_model.specs.Ends.{Peer}
 use Rattle.ca_model.specs.Server.{new_server}
@@ -29,8 +31,8 @@ use Rattle.ca_server_core.specs.declared.stepping.CoreStep.TheVariants.{Closed}
 use Rattle.ca_text.specs.declared.refusal.Refusal.{Refusal}
 use Rattle.ca_text.specs.declared.refusal.Refusal.TheVariants as refusal
 use Rattle.ca_wire.specs.Fields.{Fields}
-use Rattle.ca_c.specs.Answers.{CopiesValue, IsImage, Shows, ShowsAllOf, ShowsAny, ShowsValue, Tells}
-use Rattle.ca_c.specs.Answers.{code_of, handle_of, number_of, refusal_code}
+use Rattle.ca_c.specs.Answers.{CopiesValue, IsDisplayImage, IsImage, Shows, ShowsAllOf, ShowsAny}
+use Rattle.ca_c.specs.Answers.{ShowsValue, Tells, code_of, handle_of, number_of, refusal_code}
 use Rattle.ca_c.specs.Steps.{step_number, c_step}
 use Rattle.ca_c.specs.declared.server_object.ServerObject.{ServerObject}
 use Rattle.ca_c.specs.declared.step.CvzStep.{CvzStep}
@@ -117,9 +119,10 @@ DoesLeft s n t before after =
     Shows s.left n before after × (t.left ≡ drop n s.left) × (t.core ≡ s.core)
     × (t.answers ≡ s.answers) × (t.taken ≡ s.taken)
 
-unfoldable pub DoesAdd : ServerObject → ℤ → ServerObject → (name : List ℕ) → (greatest : ℕ)
+-- one more record, whose image is of a type without display data
+unfoldable pub AddsPlain : ServerObject → ℤ → ServerObject → (name : List ℕ) → (greatest : ℕ)
     → (slow : Bool) → (number count : ℕ) → (image : List ℕ) → Type 0
-DoesAdd s n t name greatest slow number count image =
+AddsPlain s n t name greatest slow number count image =
     ((r : Result (Unit {0}) Refusal)
     × ((value : Elements)
     × ((meta : Meta) × ((behind : ℕ) × ((n ≡ code_of r) × IsImage number count image value meta
@@ -128,6 +131,33 @@ DoesAdd s n t name greatest slow number count image =
     t.core
     × KeepsRest s t)))))
     ⊎ ((e : Refusal) × ((n ≡ refusal_code e) × ReadRefused number count image e × (t ≡ s)))
+
+-- one more record, which has the display data of its image
+unfoldable pub AddsDisplayed : ServerObject → ℤ → ServerObject → (name : List ℕ) → (greatest : ℕ)
+    → (slow : Bool) → (number count : ℕ) → (image : List ℕ) → Type 0
+AddsDisplayed s n t name greatest slow number count image =
+    ((r : Result (Unit {0}) Refusal)
+    × ((value : Elements)
+    × ((meta : Meta)
+    × ((display : DisplayData)
+    × ((behind : ℕ) × ((n ≡ code_of r) × IsDisplayImage number count image value meta display
+    × AddsRecord s.core
+    (record {
+      name = name;
+      count = greatest;
+      slow = slow;
+      value = displayed display value;
+      meta = unset;
+    })
+    behind r t.core
+    × KeepsRest s t))))))
+    ⊎ ((e : Refusal) × ((n ≡ refusal_code e) × DisplayRefused number count image e × (t ≡ s)))
+
+unfoldable pub DoesAdd : ServerObject → ℤ → ServerObject → (name : List ℕ) → (greatest : ℕ)
+    → (slow : Bool) → (number count : ℕ) → (image : List ℕ) → Type 0
+DoesAdd s n t name greatest slow number count image =
+    ((number < 21) × AddsPlain s n t name greatest slow number count image)
+    ⊎ ((21 ≤ number) × AddsDisplayed s n t name greatest slow number count image)
 
 unfoldable pub DoesRemove : ServerObject → ℤ → ServerObject → (name : List ℕ) → Type 0
 DoesRemove s n t name =

@@ -262,7 +262,8 @@ pub extern "C" fn cvz_server_stamp(
     answer
 }
 
-/// Serves one more record. Its value is an image of this type and count.
+/// Serves one more record. Its value is an image of this type and count; one of a type with display
+/// data gives the record those, too.
 #[unsafe(no_mangle)]
 pub extern "C" fn cvz_server_add(
     alloc: Global,

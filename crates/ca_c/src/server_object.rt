@@ -1,7 +1,8 @@
 //! A server as C has it: its core, and what a call made that C has not taken yet.
 
-ghost use Rattle.std.specs.Prelude.{◌≡◌};
+ghost use Rattle.std.specs.Prelude.{◌≡◌, ◌<◌, ◌≤◌};
 ghost use Rattle.ca_dbr.specs.Elements.{count_of};
+ghost use Rattle.ca_c.specs.Servers.{AddsDisplayed, AddsPlain};
 ghost use Rattle.ca_c.specs.Servers.{DoesAccept, DoesAdd, DoesAnswer, DoesApplied, DoesBeacon};
 ghost use Rattle.ca_c.specs.Servers.{DoesBusy, DoesCut, DoesDatagram, DoesFinish, DoesFirst};
 ghost use Rattle.ca_c.specs.Servers.{DoesGive, DoesHost, DoesLeft, DoesName, DoesOutput, DoesPost};
@@ -11,11 +12,16 @@ ghost use Rattle.ca_c.specs.Servers.{DoesValue, DoesWaiting};
 use crate::answers::{code, copied, copied_value, filled, handle, number, refused, shown};
 use crate::step::{CvzStep, c_step, step_number};
 use ca_dbr::{Meta, read_value};
+use ca_display::read_display;
 use ca_records::Record;
 use ca_server_core::{CoreStep, ServerCore};
 use ca_text::Refusal;
 use ca_wire::{Pipe, Sid};
-use std::alloc::Global;
+use std::alloc::{AllocError, Global};
+use std::sync::Arc;
+
+// The first type with display data.
+const FIRST_DISPLAY: u16 = 21;
 
 /// A server's core, with what C may take of its last calls.
 #[derive(Drop)]
@@ -120,8 +126,56 @@ impl ServerObject {
     ) -> i32
         ensures { DoesAdd self.old result self.new name.now greatest slow number count image.now }
     {
+        if number < FIRST_DISPLAY {
+            self.add_plain(alloc, name, greatest, slow, number, count, image)
+        } else {
+            self.add_displayed(alloc, name, greatest, slow, number, count, image)
+        }
+    }
+
+    #[tactic(auto, unfolding(crate::specs::Servers::AddsPlain))]
+    fn add_plain(
+        &mut self,
+        alloc: Global,
+        name: &[u8],
+        greatest: u32,
+        slow: bool,
+        number: u16,
+        count: u32,
+        image: &[u8],
+    ) -> i32
+        ensures { AddsPlain self.old result self.new name.now greatest slow number count image.now }
+    {
         match read_value(alloc, number, count, image) {
             Ok((value, _)) => code(self.core.add_record(name, greatest, slow, value)),
+            Err(refusal) => refused(refusal),
+        }
+    }
+
+    #[tactic(auto, unfolding(crate::specs::Servers::AddsDisplayed))]
+    fn add_displayed(
+        &mut self,
+        alloc: Global,
+        name: &[u8],
+        greatest: u32,
+        slow: bool,
+        number: u16,
+        count: u32,
+        image: &[u8],
+    ) -> i32
+        ensures { AddsDisplayed
+            self.old result self.new name.now greatest slow number count image.now }
+    {
+        match read_display(alloc, number, count, image) {
+            Ok((value, _, display)) => match Arc::new(alloc, display) {
+                Ok(display) => {
+                    code(
+                        self.core
+                            .add_displayed(name, greatest, slow, value, display),
+                    )
+                }
+                Err(_) => refused(Refusal::OutOfMemory),
+            },
             Err(refusal) => refused(refusal),
         }
     }

@@ -1,0 +1,76 @@
+"""Display data of records: what a screen shows beside a value, and how images of control types have it."""
+import math
+import struct
+from collections.abc import Sequence
+from typing import Any, NamedTuple, Optional
+
+from .values import Type, elements
+
+UNITS, STATE, STATES = 8, 26, 16
+REALS = (Type.FLOAT, Type.DOUBLE)
+NUMBERS = (Type.INT, Type.CHAR, Type.LONG, *REALS)
+
+#: A lower and an upper limit.
+Range = tuple[float, float]
+
+
+class Limits(NamedTuple):
+    """The limits of a record, each a pair of the lower and the upper one. Clients are shown them; the server raises no alarm by them.
+
+    What is None is shown as zeros, but `alarm` and `warning` of a FLOAT or DOUBLE as no numbers (NaN)."""
+    display: Optional[Range] = None
+    alarm: Optional[Range] = None
+    warning: Optional[Range] = None
+    control: Optional[Range] = None
+
+
+def display_image(kind: Type, units: Optional[str], precision: Optional[int], limits: Optional[Limits], states: Optional[Sequence[str]]) -> Optional[bytes]:
+    """What an image of a control type has between the severity and the value; None if nothing is given. Raises ValueError if the type has no such."""
+    if units is None and precision is None and limits is None and states is None:
+        return None
+    for name, it, kinds in (("units", units, NUMBERS), ("precision", precision, REALS), ("limits", limits, NUMBERS), ("states", states, (Type.ENUM,))):
+        if it is not None and kind not in kinds:
+            raise ValueError(f"a {kind.name} has no {name}")
+    if states is not None:
+        return _states(states)
+    begin = b""
+    if kind in REALS:
+        try:
+            begin = struct.pack(">hxx", precision or 0)
+        except struct.error as error:
+            raise ValueError(f"{precision!r} is no precision: {error}") from error
+    none = math.nan if kind in REALS else 0
+    its = Limits() if limits is None else limits
+    if not isinstance(its, Limits):
+        raise ValueError(f"{its!r} is no Limits")
+    low, high = _pair("display", its.display, 0)
+    lolo, hihi = _pair("alarm", its.alarm, none)
+    below, above = _pair("warning", its.warning, none)
+    least, most = _pair("control", its.control, 0)
+    image = elements(kind, [high, low, hihi, above, below, lolo, most, least])[1]
+    return begin + _field("units", units or "", UNITS) + image + bytes(kind == Type.CHAR)
+
+
+def _states(names: Sequence[str]) -> bytes:
+    if isinstance(names, (str, bytes)) or not isinstance(names, Sequence) or len(names) > STATES:
+        raise ValueError(f"states are at most {STATES} names: {names!r}")
+    return struct.pack(">H", len(names)) + b"".join(_field("a state", it, STATE) for it in names).ljust(STATES * STATE, b"\0")
+
+
+def _field(what: str, text: Any, size: int) -> bytes:
+    if not isinstance(text, str):
+        raise ValueError(f"{text!r} is no text")
+    found = text.encode("utf-8", "surrogateescape")
+    if len(found) >= size or b"\0" in found:
+        raise ValueError(f"{what} may have {size - 1} bytes, and none is zero: {text!r}")
+    return found.ljust(size, b"\0")
+
+
+def _pair(what: str, its: Optional[Range], none: float) -> Range:
+    if its is None:
+        return none, none
+    try:
+        low, high = its
+    except (TypeError, ValueError) as error:
+        raise ValueError(f"limits of {what} are a lower and an upper one: {its!r}") from error
+    return low, high
