@@ -92,7 +92,7 @@ enum {
  *   7 to 13: the same with status and severity, 2 bytes each, and padding      14 to 20: with a time stamp too, seconds since 1990 and
  *   nanoseconds, 4 bytes each, and padding
  *
- * Since 1.3 cvz_server_add, and it alone, also takes images with display data, 21 to 34. They begin with status and severity, 2 bytes each, and then have
+ * Since 1.3 cvz_server_add and cvz_server_set_display also take images with display data, 21 to 34. They begin with status and severity, 2 bytes each, and then have
  *
  *   INT, CHAR, LONG: the units, 8 bytes, zero-filled; limits of the type; of CHAR a byte of padding
  *   FLOAT, DOUBLE: the precision, 2 bytes; 2 of padding; units and limits
@@ -115,8 +115,8 @@ typedef struct cvz_address {
     uint16_t port;
 } cvz_address;
 
-/* Which changes a subscription is told of. A write is a change of value, and one for the archive. */
-enum { CVZ_MASK_VALUE = 1, CVZ_MASK_LOG = 2, CVZ_MASK_ALARM = 4 };
+/* Which changes a subscription is told of. A write is a change of value, and one for the archive; a change of display data, one of properties. */
+enum { CVZ_MASK_VALUE = 1, CVZ_MASK_LOG = 2, CVZ_MASK_ALARM = 4, CVZ_MASK_PROPERTY = 8 };
 
 /* ---- a server */
 
@@ -186,6 +186,12 @@ int32_t cvz_server_remove(cvz_server *server, const uint8_t *name, size_t name_s
  * with this one. 0, CVZ_BAD_TYPE, CVZ_SHORT, CVZ_UNKNOWN_RECORD, CVZ_BAD_COUNT or CVZ_OUT_OF_MEMORY. */
 int32_t cvz_server_post(cvz_server *server, const uint8_t *name, size_t name_size, uint16_t mask, uint16_t type, uint32_t count,
                         const uint8_t *image, size_t image_size);
+
+/* The record is shown by the display data of this image from now on, which is of a type from 21 to 34: its value, status and severity are not taken. Puts
+ * that wait for the record will be shown so, too. The record's value stays, and reaches each subscription whose mask has CVZ_MASK_PROPERTY.
+ * 0, CVZ_BAD_TYPE, CVZ_SHORT, CVZ_BAD_COUNT (over 16 states), CVZ_UNKNOWN_RECORD or CVZ_OUT_OF_MEMORY. Since 1.3. */
+int32_t cvz_server_set_display(cvz_server *server, const uint8_t *name, size_t name_size, uint16_t type, uint32_t count, const uint8_t *image,
+                               size_t image_size);
 
 /* Writes of clients that are applied from now on have this time stamp: seconds since 1990-01-01 00:00:00 UTC, and nanoseconds. 0. */
 int32_t cvz_server_stamp(cvz_server *server, uint32_t seconds, uint32_t nanoseconds);

@@ -207,6 +207,12 @@ public:
         detail::unrefused(cvz_server_post(at(), its.data(), its.size(), mask, type, count, image.data(), image.size()));
     }
 
+    void set_display(std::string_view name, std::uint16_t type, std::uint32_t count, Bytes image)
+    {
+        const Bytes its(name);
+        detail::unrefused(cvz_server_set_display(at(), its.data(), its.size(), type, count, image.data(), image.size()));
+    }
+
     void stamp(std::uint32_t seconds, std::uint32_t nanoseconds) { detail::unrefused(cvz_server_stamp(at(), seconds, nanoseconds)); }
 
     void finish(std::string_view name)

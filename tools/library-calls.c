@@ -405,6 +405,30 @@ static void is_read(uint64_t circuit, unsigned type, const char *image)
     OUTPUT(circuit, text);
 }
 
+/* The display data of GAIN are set: whoever subscribed to properties gets them with the value, which stays, and nobody else. */
+static void changes(uint64_t circuit, const uint8_t *gain)
+{
+    uint8_t image[88];
+    memcpy(image, gain, 88);
+    memcpy(image + 8, "V\0\0\0\0\0\0", 8);
+    memset(image + 80, 1, 8);
+    give(circuit, "00010010 00220001 00010000 00000009 00000000 00000000 00000000 00080000");
+    STEP(circuit, CVZ_SUBSCRIBED, 65536, 9);
+    give(circuit, "00010010 00220001 00010000 0000000a 00000000 00000000 00000000 00070000");
+    STEP(circuit, CVZ_SUBSCRIBED, 65536, 10);
+    IS(cvz_server_pump(&server, circuit), 0);
+    IS(cvz_server_sent(&server, circuit, 2 * (16 + 88)), 0);
+    IS(cvz_server_set_display(&server, T("NONE"), CVZ_CONTROL + CVZ_DOUBLE, 1, image, 88), CVZ_UNKNOWN_RECORD);
+    IS(cvz_server_set_display(&server, T("GAIN"), CVZ_DOUBLE, 1, image, 88), CVZ_BAD_TYPE);
+    IS(cvz_server_set_display(&server, T("GAIN"), CVZ_CONTROL + CVZ_DOUBLE, 1, image, 87), CVZ_SHORT);
+    IS(cvz_server_set_display(&server, T("GAIN"), CVZ_CONTROL + CVZ_DOUBLE, 1, image, 88), 0);
+    IS(cvz_server_pump(&server, circuit), 0);
+    IS(cvz_server_output(&server, circuit, room, sizeof room), 16 + 88);
+    memcpy(image + 80, gain + 80, 8);
+    IS(memcmp(room, "\0\1\0\130\0\42\0\1\0\0\0\1\0\0\0\11", 16) == 0 && memcmp(room + 16, image, 88) == 0, 1);
+    IS(cvz_server_sent(&server, circuit, 16 + 88), 0);
+}
+
 /* Records with display data: that of which the images were recorded, and one of three states; and images that are refused. */
 static void displays(void)
 {
@@ -434,6 +458,7 @@ static void displays(void)
     for (size_t at = 0; at < sizeof recorded / sizeof recorded[0]; at++)
         is_read(circuit, recorded[at].type, recorded[at].image);
     IS(cvz_server_post(&server, T("GAIN"), CVZ_MASK_VALUE, CVZ_CONTROL + CVZ_DOUBLE, 1, gain, 88), CVZ_BAD_TYPE);
+    changes(circuit, gain);
     IS(cvz_server_accept(&server, &circuit), 0);
     give(circuit, "00120008 00000000 00000001 0000000d 53544154 45000000");
     STEP(circuit, CVZ_CREATED, 65536, 0);

@@ -93,7 +93,7 @@ static int run(cvz_server *server)
     const uint8_t image[8] = {0, 0, 0, 21};
     static const uint8_t gain[88], state[424] = {0, 0, 0, 0, 0, 2, 'o', 'f', 'f', [32] = 'o', 'n'};
     uint64_t circuit;
-    int answers[15] = {0}, refused = 0;
+    int answers[16] = {0}, refused = 0;
     size_t size = 7;
     uint32_t count = 7;
     answers[0] = cvz_server_load(server, 5064, 0, T("record SLOW LONG 1 slow 5\nrule me * SLOW rw\n"));
@@ -123,11 +123,12 @@ static int run(cvz_server *server)
             if (cvz_server_first(server, T("SLOW"), &circuit) != 0 || cvz_server_user(server, circuit, room, sizeof room) != 0)
                 answers[12] = 3;       /* neither asks for memory */
         }
+        answers[15] = cvz_server_set_display(server, T("TEMP"), CVZ_CONTROL + CVZ_DOUBLE, 1, gain, sizeof gain);
         answers[9] = cvz_server_remove(server, T("TEMP"));
         answers[13] = shown(server, CVZ_CONTROL + CVZ_DOUBLE, gain, sizeof gain);
         answers[14] = shown(server, CVZ_GRAPHIC + CVZ_ENUM, state, sizeof state);
     }
-    for (int i = 0; i < 15; i++) {
+    for (int i = 0; i < 16; i++) {
         if (answers[i] != 0 && answers[i] != 1 && answers[i] != CVZ_OUT_OF_MEMORY)
             return printf("answer %d is %d\n", i, answers[i]), -1;
         refused += answers[i] != 0;

@@ -54,6 +54,7 @@ SERVER: dict[str, tuple[Any, ...]] = {
     "add": (c_int32, *BYTES, c_uint32, c_bool, *IMAGE),
     "remove": (c_int32, *BYTES),
     "post": (c_int32, *BYTES, c_uint16, *IMAGE),
+    "set_display": (c_int32, *BYTES, *IMAGE),
     "stamp": (c_int32, c_uint32, c_uint32),
     "first": (c_int32, *BYTES, POINTER(c_uint64)),
     "finish": (c_int32, *BYTES),

@@ -15,9 +15,9 @@ Range = tuple[float, float]
 
 
 class Limits(NamedTuple):
-    """The limits of a record, each a pair of the lower and the upper one. Clients are shown them; the server raises no alarm by them.
+    """The limits of a record, each a pair of the lower and the upper one. Clients are shown them, and a client's put has its alarm by them.
 
-    What is None is shown as zeros, but `alarm` and `warning` of a FLOAT or DOUBLE as no numbers (NaN)."""
+    What is None is shown as zeros, by which no value has an alarm, but `alarm` and `warning` of a FLOAT or DOUBLE as no numbers (NaN)."""
     display: Optional[Range] = None
     alarm: Optional[Range] = None
     warning: Optional[Range] = None

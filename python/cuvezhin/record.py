@@ -77,11 +77,7 @@ class Record:
         self.count = many if count is None else count
         if not 0 < many <= self.count:
             raise ValueError(f"{name}: {many} elements, of {self.count} at most")
-        self.units, self.precision, self.limits, self.states = units, precision, limits, states
-        try:
-            self._display = display_image(self.type, units, precision, limits, states)
-        except ValueError as error:
-            raise ValueError(f"{name}: {error}") from error
+        self._set_display(units, precision, limits, states)
         self._server: Any = None
         self._take(many, memoryview(stamped(self.type, image, 0, 0, *now())))
         # The circuits that subscribed to it, how often, and puts that wait for its callback.
@@ -121,6 +117,23 @@ class Record:
         Raises ValueError if the value is not of the record's type or has too many elements."""
         self.set(value, status=status, severity=severity, stamp=stamp, mask=mask)
         await asyncio.sleep(0)
+
+    def show(self, *, units: Optional[str] = None, precision: Optional[int] = None, limits: Optional[Limits] = None,
+             states: Optional[Sequence[str]] = None) -> None:
+        """Clients are shown these display data from now on, and subscribers with Mask.PROPERTY are told. What is not given stays.
+
+        Raises ValueError as for a new record."""
+        self._set_display(self.units if units is None else units, self.precision if precision is None else precision, self.limits if limits is None else limits,
+                          self.states if states is None else states)
+        if self._server and self._display:
+            self._server._show(self)
+
+    def _set_display(self, units: Optional[str], precision: Optional[int], limits: Optional[Limits], states: Optional[Sequence[str]]) -> None:
+        try:
+            self._display = display_image(self.type, units, precision, limits, states)
+        except ValueError as error:
+            raise ValueError(f"{self.name}: {error}") from error
+        self.units, self.precision, self.limits, self.states = units, precision, limits, states
 
     def _leave(self) -> None:
         """No server has it any more."""

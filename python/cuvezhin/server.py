@@ -198,8 +198,7 @@ class Server:
             raise ValueError(f"{record.name} is served already")
         core, name, value = self._core, record.name.encode("utf-8", "surrogateescape"), record.reading
         many, image = elements(record.type, value.value)
-        # A control image begins with status and severity.
-        kind, first = (record.type, image) if record._display is None else (lib.CONTROL + record.type, bytes(4) + record._display + image)
+        kind, first = _shown(record, image)
         lib.checked(core.call_add(core.at, name, len(name), record.count, record.slow, kind, many, first, len(first)), record.name)
         full = stamped(record.type, image, value.status, value.severity, value.seconds, value.nanoseconds)
         core.call_post(core.at, name, len(name), EVERY_CHANGE, lib.TIME + record.type, many, full, len(full))
@@ -218,6 +217,13 @@ class Server:
     def _post(self, record: Record, mask: int, count: int, image: bytes) -> None:
         core, name = self._core, record.name.encode("utf-8", "surrogateescape")
         lib.checked(core.call_post(core.at, name, len(name), mask, lib.TIME + record.type, count, image, len(image)), record.name)
+        self._tell(record)
+
+    def _show(self, record: Record) -> None:
+        core, name = self._core, record.name.encode("utf-8", "surrogateescape")
+        many, image = elements(record.type, record.value)
+        kind, first = _shown(record, image)
+        lib.checked(core.call_set_display(core.at, name, len(name), kind, many, first, len(first)), record.name)
         self._tell(record)
 
     def _tell(self, record: Record) -> None:
@@ -428,3 +434,11 @@ class Server:
             self._wait = min(2 * self._wait, LONGEST_BEACON)
         else:
             self._timer = self._loop.call_later(0.002, self._beacon)
+
+
+def _shown(record: Record, image: bytes) -> tuple[int, bytes]:
+    """The type and the bytes of an image with the record's display data and these elements, or of the elements alone if it has none."""
+    if record._display is None:
+        return record.type, image
+    # A control image begins with status and severity.
+    return lib.CONTROL + record.type, bytes(4) + record._display + image

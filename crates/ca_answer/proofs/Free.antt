@@ -121,10 +121,10 @@ no-waits y e sid c free busy = go (record_named y.records c.channel.name) refl c
 -- what a message makes of the records
 pub recorded-free : (y : Server) (h : Handle) (e : ServerEnd) (m : Fields) (did : Action) (new : Server) → AreFree y.records → Busies (knows y e) m did → Records y h e m did new → AreFreeBut (busied did) new.records
 recorded-free y h e m (Applies name value false) new free busy is =
-    subst (λ (rs : List Record). AreFree rs) (sym (ap (λ (s : Server). s.records) is)) (free-with name (with_value value (written_meta y.stamp)) y.records (λ r. refl) (λ r. refl) free)
+    subst (λ (rs : List Record). AreFree rs) (sym (ap (λ (s : Server). s.records) is)) (free-with name (with_value value (written_meta value y.stamp)) y.records (λ r. refl) (λ r. refl) free)
 recorded-free y h e m (Applies name value true) new free busy (p, put, is) =
     subst (λ (rs : List Record). AreFreeBut (Some name) rs) (sym (ap (λ (s : Server). s.records) is))
-    (busy-with name p (λ (r : Record). record (with_value value (written_meta y.stamp) r) { busy = Some p }) y.records (λ r. refl) (λ r. refl) (λ r. refl) free)
+    (busy-with name p (λ (r : Record). record (with_value value (written_meta value y.stamp) r) { busy = Some p }) y.records (λ r. refl) (λ r. refl) (λ r. refl) free)
 recorded-free y h e m (action.Waits name value) new free busy is = absurd (no-waits y e m.p1 busy.0 free busy.1)
 recorded-free y h e m (action.Clears sid) new free busy is =
     subst (λ (rs : List Record). AreFree rs) (sym (ap (λ (s : Server). s.records) is)) (withdrawn-free _ None y.records free)

@@ -112,7 +112,7 @@ Leaving old h updates new =
     (e : ServerEnd) × HasEnd old h e
     × ((after : ServerEnd) × FoldsTo Leaves e updates after × (new ≡ with_end h after old))
 
--- The same, and some updates were pumped.
+-- A message was handled and finished, and some updates were pumped.
 pub record Filled {K : Type 0} (takes : K → List ℕ → K → Type 0) (rules : List Rule)
     (states : List RecordState) (k0 : K) (bytes : List ℕ) (k : K) (x : EngineState) : Type 0 where
   pub text : List ℕ

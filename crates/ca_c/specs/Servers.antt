@@ -15,7 +15,7 @@ use Rattle.ca_ids.specs.Table.{has_free, under}
 use Rattle.ca_model.specs.Ends.{Peer}
 use Rattle.ca_model.specs.Server.{new_server}
 use Rattle.ca_model.specs.ServerCalls.{AddsRecord, AnswersDatagram, Beacons, Finishes, Posts}
-use Rattle.ca_model.specs.ServerCalls.{Removes, stamped, waiting}
+use Rattle.ca_model.specs.ServerCalls.{Removes, SetsDisplay, stamped, waiting}
 use Rattle.ca_model.specs.ServerSteps.{Accepts, Cuts, Gives, Pumps, Sends, Steps, Update, output_of}
 use Rattle.ca_records.specs.Record.{RecordState, unset}
 use Rattle.ca_records.specs.Rules.{Rule}
@@ -178,6 +178,20 @@ DoesPost s n t name mask number count image =
     r t.core
     × KeepsRest s t)))))
     ⊎ ((e : Refusal) × ((n ≡ refusal_code e) × ReadRefused number count image e × (t ≡ s)))
+
+-- the record is shown by the display data of this image
+unfoldable pub DoesSetDisplay : ServerObject → ℤ → ServerObject → (name : List ℕ)
+    → (number count : ℕ) → (image : List ℕ) → Type 0
+DoesSetDisplay s n t name number count image =
+    ((r : Result (Unit {0}) Refusal)
+    × ((value : Elements)
+    × ((meta : Meta)
+    × ((display : DisplayData)
+    × ((gone : Handle → Bool) × ((n ≡ code_of r)
+    × IsDisplayImage number count image value meta display
+    × SetsDisplay s.core name display gone r t.core
+    × KeepsRest s t))))))
+    ⊎ ((e : Refusal) × ((n ≡ refusal_code e) × DisplayRefused number count image e × (t ≡ s)))
 
 unfoldable pub DoesFinish : ServerObject → ℤ → ServerObject → (name : List ℕ) → Type 0
 DoesFinish s n t name =

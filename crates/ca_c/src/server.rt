@@ -9,8 +9,8 @@ ghost use Rattle.ca_c.specs.Servers.{Begins, IsBegun, IsLoaded, Loads, DoesAccep
 ghost use Rattle.ca_c.specs.Servers.{DoesAnswer, DoesApplied, DoesBeacon, DoesBusy, DoesCut};
 ghost use Rattle.ca_c.specs.Servers.{DoesDatagram, DoesFinish, DoesFirst, DoesGive, DoesHost};
 ghost use Rattle.ca_c.specs.Servers.{DoesLeft, DoesName, DoesOutput, DoesPost, DoesPump};
-ghost use Rattle.ca_c.specs.Servers.{DoesRemove, DoesSent, DoesStamp, DoesStep, DoesUser};
-ghost use Rattle.ca_c.specs.Servers.{DoesValue, DoesWaiting};
+ghost use Rattle.ca_c.specs.Servers.{DoesRemove, DoesSent, DoesSetDisplay, DoesStamp, DoesStep};
+ghost use Rattle.ca_c.specs.Servers.{DoesUser, DoesValue, DoesWaiting};
 
 use crate::answers::{NO_OBJECT, refused};
 use crate::cvz_server::CvzServer;
@@ -319,6 +319,28 @@ pub extern "C" fn cvz_server_post(
         return NO_OBJECT;
     };
     let answer = object.post(alloc, name, mask, number, count, image);
+    server.put(alloc, object);
+    answer
+}
+
+/// A record is shown by the display data of this image from now on, and its value reaches all
+/// subscriptions whose mask has the bit PROPERTY.
+#[unsafe(no_mangle)]
+pub extern "C" fn cvz_server_set_display(
+    alloc: Global,
+    server: &mut CvzServer,
+    name: &[u8],
+    number: u16,
+    count: u32,
+    image: &[u8],
+) -> i32
+    ensures { Calls no_object server.old.value result server.new.value
+        (λ s n t. DoesSetDisplay s n t name.now number count image.now) }
+{
+    let Some(mut object) = server.take(alloc) else {
+        return NO_OBJECT;
+    };
+    let answer = object.set_display(alloc, name, number, count, image);
     server.put(alloc, object);
     answer
 }

@@ -1,18 +1,23 @@
 //! A server as C has it: its core, and what a call made that C has not taken yet.
 
-ghost use Rattle.std.specs.Prelude.{◌≡◌, ◌<◌, ◌≤◌};
-ghost use Rattle.ca_dbr.specs.Elements.{count_of};
+ghost use Rattle.std.specs.Prelude.{◌≡◌, ◌<◌, ◌≤◌, IfErr, IfOk};
+ghost use Rattle.std.specs.Arc.{arc_value};
+ghost use Rattle.ca_dbr.specs.declared.value.Meta.{Meta};
+ghost use Rattle.ca_dbr.specs.Elements.{count_of, elements};
+ghost use Rattle.ca_display.specs.Data.{data_of};
+ghost use Rattle.ca_display.specs.Reading.{DisplayRefused};
+ghost use Rattle.ca_c.specs.Answers.{IsDisplayImage};
 ghost use Rattle.ca_c.specs.Servers.{AddsDisplayed, AddsPlain};
 ghost use Rattle.ca_c.specs.Servers.{DoesAccept, DoesAdd, DoesAnswer, DoesApplied, DoesBeacon};
 ghost use Rattle.ca_c.specs.Servers.{DoesBusy, DoesCut, DoesDatagram, DoesFinish, DoesFirst};
 ghost use Rattle.ca_c.specs.Servers.{DoesGive, DoesHost, DoesLeft, DoesName, DoesOutput, DoesPost};
-ghost use Rattle.ca_c.specs.Servers.{DoesPump, DoesRemove, DoesSent, DoesStamp, DoesStep, DoesUser};
-ghost use Rattle.ca_c.specs.Servers.{DoesValue, DoesWaiting};
+ghost use Rattle.ca_c.specs.Servers.{DoesPump, DoesRemove, DoesSent, DoesSetDisplay, DoesStamp};
+ghost use Rattle.ca_c.specs.Servers.{DoesStep, DoesUser, DoesValue, DoesWaiting};
 
 use crate::answers::{code, copied, copied_value, filled, handle, number, refused, shown};
 use crate::step::{CvzStep, c_step, step_number};
-use ca_dbr::{Meta, read_value};
-use ca_display::read_display;
+use ca_dbr::{Meta, Value, read_value};
+use ca_display::{Display, read_display};
 use ca_records::Record;
 use ca_server_core::{CoreStep, ServerCore};
 use ca_text::Refusal;
@@ -166,16 +171,13 @@ impl ServerObject {
         ensures { AddsDisplayed
             self.old result self.new name.now greatest slow number count image.now }
     {
-        match read_display(alloc, number, count, image) {
-            Ok((value, _, display)) => match Arc::new(alloc, display) {
-                Ok(display) => {
-                    code(
-                        self.core
-                            .add_displayed(name, greatest, slow, value, display),
-                    )
-                }
-                Err(_) => refused(Refusal::OutOfMemory),
-            },
+        match read_shown(alloc, number, count, image) {
+            Ok((value, display)) => {
+                code(
+                    self.core
+                        .add_displayed(name, greatest, slow, value, display),
+                )
+            }
             Err(refusal) => refused(refusal),
         }
     }
@@ -201,6 +203,23 @@ impl ServerObject {
     {
         match read_value(alloc, number, count, image) {
             Ok((value, meta)) => code(self.core.post(name, value, meta, mask)),
+            Err(refusal) => refused(refusal),
+        }
+    }
+
+    #[tactic(auto, unfolding(crate::specs::Servers::DoesSetDisplay))]
+    pub(crate) fn set_display(
+        &mut self,
+        alloc: Global,
+        name: &[u8],
+        number: u16,
+        count: u32,
+        image: &[u8],
+    ) -> i32
+        ensures { DoesSetDisplay self.old result self.new name.now number count image.now }
+    {
+        match read_shown(alloc, number, count, image) {
+            Ok((_, display)) => code(self.core.set_display(name, display)),
             Err(refusal) => refused(refusal),
         }
     }
@@ -352,4 +371,22 @@ fn count_of(record: &Record) -> u32
     ensures { result ≡ count_of record.now.value }
 {
     record.held().value().count() as u32
+}
+
+/// The value and the display data of this image.
+fn read_shown(
+    alloc: Global,
+    number: u16,
+    count: u32,
+    image: &[u8],
+) -> Result<(Value, Arc<Display>), Refusal>
+    ensures read { IfOk result (λ r. (meta : Meta)
+        × IsDisplayImage number count image.now (elements r.0) meta (data_of (arc_value r.1))) }
+    ensures refused { IfErr result (DisplayRefused number count image.now) }
+{
+    let (value, _, display) = read_display(alloc, number, count, image)?;
+    match Arc::new(alloc, display) {
+        Ok(display) => Ok((value, display)),
+        Err(_) => Err(Refusal::OutOfMemory),
+    }
 }

@@ -45,7 +45,7 @@ HearsBeacon old from m (Ok b) new =
     × (forgotten b new ≡ old)
 HearsBeacon old from m (Err _) new = new ≡ old
 
--- The same of a message of that command; one without a port does nothing.
+-- A message of the command RsrvIsUp was heard; one without a port does nothing.
 abbrev pub HearsIn : Servers → Address → Fields → Result Received AllocError → Servers → Type 0
 HearsIn old from m (Ok (received.Beacon b)) new =
     (m.count < 2 ^ 16) × HearsBeacon old from m (Ok b) new

@@ -10,3 +10,4 @@ pub mod Sizes
 pub mod Shown
 pub mod Alarms
 pub mod Holdings
+pub mod Values

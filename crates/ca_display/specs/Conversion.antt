@@ -1,5 +1,6 @@
 -- Conversions of values of records with display data: each type to each other, element by element.
-use Rattle.std.specs.Prelude.{ℕ, ℤ, pos, ◌-◌, Bool, List, Result, Ok, Err, from_bits, unsigned_abs}
+use Rattle.std.specs.Prelude.{ℕ, ℤ, pos, ◌-◌, Bool, List, Option, Some, None, Result}
+use Rattle.std.specs.Prelude.{Ok, Err, from_bits, unsigned_abs}
 use Rattle.std.specs.Float.{binary32, binary64}
 use Rattle.ca_text.specs.declared.refusal.Refusal.{Refusal}
 use Rattle.ca_text.specs.declared.refusal.Refusal.TheVariants as refusal
@@ -111,6 +112,11 @@ display_converted d (doubles xs) base.String =
     then_elements strings (gathered (double_shown d) xs)
 display_converted d (doubles xs) b = in_numbers of_double xs b
 display_converted d (displayed c e) b = with_data c (display_converted d e b)
+
+-- elements in a type, by display data if there are some
+abbrev pub converted_by : Option DisplayData → Elements → BaseType → Result Elements Refusal
+converted_by None e b = converted e b
+converted_by (Some d) e b = display_converted d e b
 
 -- What a read shows: n elements, in a type. A count below the present one takes the first elements,
 -- before they are converted; after the present ones elements of zero bytes follow.

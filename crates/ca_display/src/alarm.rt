@@ -1,7 +1,8 @@
 //! The alarm of a value by its limits.
-ghost use Rattle.std.specs.Prelude.{◌≡◌};
+ghost use Rattle.std.specs.Prelude.{◌≡◌, from_bits};
+ghost use Rattle.std.specs.Float.{binary64};
 ghost use Rattle.ca_dbr.specs.Elements.{elements};
-ghost use Rattle.ca_display.specs.Alarm.{alarm_at, alarm_of, one_alarm};
+ghost use Rattle.ca_display.specs.Alarm.{alarm_at, alarm_of, limit_alarm, one_alarm};
 ghost use Rattle.ca_display.specs.Data.{limits_of};
 
 use crate::display::Limits;
@@ -23,10 +24,12 @@ const MINOR: u16 = 1;
 const MAJOR: u16 = 2;
 
 /// The status and severity of a value by these limits: HIHI and LOLO are MAJOR, HIGH and LOW are
-/// MINOR. A limit that is no number is none. A value has no alarm if it is no number, or not one
+/// MINOR. A limit that is no number is none, and neither is one of two with nothing between them,
+/// as the zeros of a record without limits. A value has no alarm if it is no number, or not one
 /// alone: a text, a state, or several elements.
-pub fn alarm_of(limits: Limits, value: &Value) -> (u16, u16)
-    ensures { result ≡ alarm_of (limits_of limits) (elements value.now) }
+#[inline(never)]
+pub fn alarm_of(limits: &Limits, value: &Value) -> (u16, u16)
+    ensures { result ≡ alarm_of (limits_of limits.now) (elements value.now) }
 {
     match value {
         Value::Strings(_) => (0, 0),
@@ -39,9 +42,9 @@ pub fn alarm_of(limits: Limits, value: &Value) -> (u16, u16)
     }
 }
 
-// The same of these elements.
-fn alarm_of_one<S: Numeric>(limits: Limits, items: &[S]) -> (u16, u16)
-    ensures { result ≡ one_alarm (limits_of limits) S.number items.now }
+// The alarm of a value by its elements: of more than one there is none.
+fn alarm_of_one<S: Numeric>(limits: &Limits, items: &[S]) -> (u16, u16)
+    ensures { result ≡ one_alarm (limits_of limits.now) S.number items.now }
 {
     let Some((item, others)) = items.split_first() else {
         return (0, 0);
@@ -55,21 +58,50 @@ fn alarm_of_one<S: Numeric>(limits: Limits, items: &[S]) -> (u16, u16)
     }
 }
 
-// The same of a number.
-fn alarm_at(limits: Limits, value: f64) -> (u16, u16)
-    ensures { result ≡ alarm_at (limits_of limits) value }
+// The alarm of one number.
+fn alarm_at(limits: &Limits, value: f64) -> (u16, u16)
+    ensures { result ≡ alarm_at (limits_of limits.now) value }
 {
-    if f64_from_bits_with_nan(limits.upper_alarm) <= value {
-        return (HIHI, MAJOR);
+    let warned = limit_alarm(
+        limits.lower_warning,
+        limits.upper_warning,
+        value,
+        (LOW, MINOR),
+        (HIGH, MINOR),
+        (0, 0),
+    );
+    limit_alarm(
+        limits.lower_alarm,
+        limits.upper_alarm,
+        value,
+        (LOLO, MAJOR),
+        (HIHI, MAJOR),
+        warned,
+    )
+}
+
+// Which of these a number is by a lower and an upper limit.
+fn limit_alarm(
+    lower: u64,
+    upper: u64,
+    value: f64,
+    below: (u16, u16),
+    above: (u16, u16),
+    neither: (u16, u16),
+) -> (u16, u16)
+    ensures { result ≡ limit_alarm (from_bits binary64 lower) (from_bits binary64 upper) value below
+        above neither }
+{
+    let lower = f64_from_bits_with_nan(lower);
+    let upper = f64_from_bits_with_nan(upper);
+    if upper <= lower {
+        return neither;
     }
-    if value <= f64_from_bits_with_nan(limits.lower_alarm) {
-        return (LOLO, MAJOR);
+    if upper <= value {
+        return above;
     }
-    if f64_from_bits_with_nan(limits.upper_warning) <= value {
-        return (HIGH, MINOR);
+    if value <= lower {
+        return below;
     }
-    if value <= f64_from_bits_with_nan(limits.lower_warning) {
-        return (LOW, MINOR);
-    }
-    (0, 0)
+    neither
 }

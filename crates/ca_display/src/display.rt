@@ -39,8 +39,7 @@ pub struct Display {
 impl Limits {
     ghost use Rattle.ca_display.specs.Data.{limits_of};
 
-    /// All zero, as limits are read that an image does not carry. For `alarm_of` zero is a limit:
-    /// no number is none.
+    /// All zero, as limits are read that an image does not carry: no value has an alarm by them.
     pub const ZERO: Limits = Limits {
         upper_display: 0,
         lower_display: 0,

@@ -1,14 +1,21 @@
 //! What a record holds: a value, and the display data that it is shown by.
-ghost use Rattle.std.specs.Prelude.{◌≡◌, ◌≢◌, ◌≤◌, ◌⊎◌, IfOk, None, OnErr, OnOk, option_map};
+ghost use Rattle.std.specs.Prelude.{◌≡◌, ◌≢◌, ◌≤◌, ◌⊎◌, IfErr, IfOk, None, Ok, OnErr, OnOk};
+ghost use Rattle.std.specs.Prelude.{option_map};
 ghost use Rattle.std.specs.Arc.{arc_value};
+ghost use Rattle.ca_dbr.specs.Conversion.{Fails};
 ghost use Rattle.ca_dbr.specs.Elements.{base_of, count_of, displayed, elements};
 ghost use Rattle.ca_dbr.specs.Held.{IsHeldValue, bare, display_of, displayed_by};
+ghost use Rattle.ca_display.specs.Alarm.{alarm_by};
+ghost use Rattle.ca_display.specs.Conversion.{converted_by};
 ghost use Rattle.ca_display.specs.Data.{data_of};
 ghost use Rattle.ca_display.specs.Holding.{HoldsOver};
 
+use crate::alarm::alarm_of;
+use crate::conversion::convert_display;
 use crate::display::Display;
 use crate::renewing::copy_over;
-use ca_dbr::Value;
+use ca_dbr::{Value, convert_to};
+use ca_text::Refusal;
 use std::alloc::{AllocError, Global};
 use std::marker::Model;
 use std::mem;
@@ -107,6 +114,33 @@ impl Held {
         }
     }
 
+    /// These elements in the type of the value, converted by the display data if there are some.
+    ///
+    /// Refused as `convert_to` of `ca_dbr` and `convert_display` are, and then as OutOfMemory.
+    pub fn convert(&self, alloc: Global, value: &Value) -> Result<Value, Refusal>
+        ensures ok { IfOk result (λ v. converted_by (display_of self.now) (elements value.now)
+            (base_of self.now) ≡ Ok (elements v)) }
+        ensures err { IfErr result (Fails (converted_by (display_of self.now) (elements value.now)
+            (base_of self.now))) }
+    {
+        let base = self.value.base_type();
+        match &self.display {
+            None => convert_to(alloc, value, base),
+            Some(display) => convert_display(alloc, value, base, display),
+        }
+    }
+
+    /// The status and severity of the value by the limits of the display data: without them none.
+    #[inline(always)]
+    pub fn alarm(&self) -> (u16, u16)
+        ensures { result ≡ alarm_by (display_of self.now) self.now }
+    {
+        match &self.display {
+            None => (0, 0),
+            Some(display) => alarm_of(&display.limits, &self.value),
+        }
+    }
+
     /// Tells that each element is one of its type, and that display data are such. It does nothing.
     pub fn know(&self)
         ensures { IsHeldValue self.now }
@@ -124,6 +158,13 @@ impl Held {
         ensures { self.new ≡ displayed_by (display_of self.old) (elements value) }
     {
         mem::replace(&mut self.value, value)
+    }
+
+    /// Sets the display data that the value is shown by from now on.
+    pub fn set_display(&mut self, display: Arc<Display>)
+        ensures { self.new ≡ displayed (data_of (arc_value display)) (bare self.old) }
+    {
+        self.display = Some(display);
     }
 
     /// It is the same as the other from now on. Its memory is kept if both are of one type. Without

@@ -200,7 +200,7 @@ fn write_with_display(
     }
 }
 
-// The same in any type of the value's own base.
+// Writes an image in any type of the value's own base.
 fn write_own(
     image_type: ImageType,
     count: u32,

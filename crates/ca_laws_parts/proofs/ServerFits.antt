@@ -278,10 +278,10 @@ put-fits h e m p good (c, at, is) = subst PutFits (sym is) (good.header.data_typ
 
 pub records-fits : (y : Server) (h : Handle) (e : ServerEnd) (m : Fields) (did : Action) (new : Server) → IsMessage m → ActionFits did → Records y h e m did new → AllAt RecordFits y.records → AllAt RecordFits new.records × (new.port ≡ y.port)
 records-fits y h e m (Applies name value false) new good one is all =
-    subst (λ (z : Server). AllAt RecordFits z.records × (z.port ≡ y.port)) (sym is) (changed-fits name (with_value value (written_meta y.stamp)) y.records (λ r fit. value-fits value (written_meta y.stamp) r one fit) all, refl)
+    subst (λ (z : Server). AllAt RecordFits z.records × (z.port ≡ y.port)) (sym is) (changed-fits name (with_value value (written_meta value y.stamp)) y.records (λ r fit. value-fits value (written_meta value y.stamp) r one fit) all, refl)
 records-fits y h e m (Applies name value true) new good one (p, put, is) all =
     subst (λ (z : Server). AllAt RecordFits z.records × (z.port ≡ y.port)) (sym is)
-    (changed-fits name (λ (r : Record). record (with_value value (written_meta y.stamp) r) { busy = Some p }) y.records (λ r fit. busied-fits value (written_meta y.stamp) p r one (put-fits h e m p good put) fit) all, refl)
+    (changed-fits name (λ (r : Record). record (with_value value (written_meta value y.stamp) r) { busy = Some p }) y.records (λ r fit. busied-fits value (written_meta value y.stamp) p r one (put-fits h e m p good put) fit) all, refl)
 records-fits y h e m (action.Waits name value) new good one (p, put, is) all =
     let w : WaitingPut = record { put = p; value = value } in
     subst (λ (z : Server). AllAt RecordFits z.records × (z.port ≡ y.port)) (sym is) (

@@ -134,8 +134,8 @@ life-write N i life log rs n old h e p s replies name value false new t due make
     let origin = came-on N i life log rs n old IsTaken h e p s t a name value d.0 (writes-only (knows old e) s.message replies (Applies name value false) due tt) in
     let after = agree-applied (CameOn N life) (LostOn N) (IsPutOf N i) log old.records rs n f.i w.0.c f.r p v f.in_cs f.in_rs t.untold origin w.0.base a in
     subst (λ (cs : List Record). Life N i life (log ++ logged_by old h p (Applies name value false) rs) cs rs n) (ap (λ (x : Server). x.records) (sym makes))
-    (subst (λ (m : ℕ). Life N i life (log ++ Applied p.circuit p.place m v false ∷ []) (with_record name (with_value value (written_meta old.stamp)) old.records) rs n) (sym w.0.number)
-    (subst (λ (m : List ℕ). Life N i life (log ++ Applied p.circuit p.place f.r.number v false ∷ []) (with_record m (with_value value (written_meta old.stamp)) old.records) rs n) f.named after))
+    (subst (λ (m : ℕ). Life N i life (log ++ Applied p.circuit p.place m v false ∷ []) (with_record name (with_value value (written_meta value old.stamp)) old.records) rs n) (sym w.0.number)
+    (subst (λ (m : List ℕ). Life N i life (log ++ Applied p.circuit p.place f.r.number v false ∷ []) (with_record m (with_value value (written_meta value old.stamp)) old.records) rs n) f.named after))
 life-write N i life log rs n old h e p s replies name value true new t due makes a =
     let d = due-applies (knows old e) s.message replies name value true due in
     let more = d.1 refl in
@@ -148,8 +148,8 @@ life-write N i life log rs n old h e p s replies name value true new t due makes
     let idle : w.0.c.busy ≡ None = idle-none w.0.c.busy (ap (λ (x : KnownRecord). x.busy) w.1 ∙ more.2) in
     let after = agree-busied (CameOn N life) (LostOn N) (IsPutOf N i) log old.records rs n f.i w.0.c f.r p b v f.in_cs f.in_rs idle t.untold origin w.0.base (put-of N i life log rs n old IsTaken h e p s t a b makes.1 more.0) slow a in
     subst (λ (cs : List Record). Life N i life (log ++ logged_by old h p (Applies name value true) rs) cs (records_after old h p (Applies name value true) rs) n) (ap (λ (x : Server). x.records) (sym makes.2))
-    (subst (λ (m : ℕ). Life N i life (log ++ Applied p.circuit p.place m v true ∷ []) (with_record name (λ (r : Record). record (with_value value (written_meta old.stamp) r) { busy = Some b }) old.records) (event.with_record name (λ (r : RecordSide). record r { busy = Some p }) rs) n) (sym w.0.number)
-    (subst (λ (m : List ℕ). Life N i life (log ++ Applied p.circuit p.place f.r.number v true ∷ []) (with_record m (λ (r : Record). record (with_value value (written_meta old.stamp) r) { busy = Some b }) old.records) (event.with_record m (λ (r : RecordSide). record r { busy = Some p }) rs) n) f.named after))
+    (subst (λ (m : ℕ). Life N i life (log ++ Applied p.circuit p.place m v true ∷ []) (with_record name (λ (r : Record). record (with_value value (written_meta value old.stamp) r) { busy = Some b }) old.records) (event.with_record name (λ (r : RecordSide). record r { busy = Some p }) rs) n) (sym w.0.number)
+    (subst (λ (m : List ℕ). Life N i life (log ++ Applied p.circuit p.place f.r.number v true ∷ []) (with_record m (λ (r : Record). record (with_value value (written_meta value old.stamp) r) { busy = Some b }) old.records) (event.with_record m (λ (r : RecordSide). record r { busy = Some p }) rs) n) f.named after))
 
 -- the write of a message that is handled, told in its step
 comes-of : (N : List Joined) (i life : ℕ) (log : List Entry) (rs : List RecordSide) (h : Handle) (p : PutPlace) (s : Sent) (t : Takes N i life log rs h p s) → t.step.logged < t.step.after → Comes N i life log IsHandledIn h p s
@@ -235,7 +235,7 @@ life-step N i life log rs n old h e p s replies (action.Waits name value) new t 
     let origin = came-on N i life log rs n old IsHandledIn h e p s c a name value d.0 (writes-only (knows old e) s.message replies (action.Waits name value) due tt) in
     let b : Put = makes.0 in
     let put : WaitingPut = record { put = b; value = value } in
-    let after = agree-waits (CameOn N life) (LostOn N) (IsPutOf N i) log old.records rs n f.i w.0.c f.r p put (written_meta old.stamp) f.in_cs f.in_rs w.0.base t.untold origin (put-of N i life log rs n old IsHandledIn h e p s c a b makes.1 d.1) a in
+    let after = agree-waits (CameOn N life) (LostOn N) (IsPutOf N i) log old.records rs n f.i w.0.c f.r p put (written_meta value old.stamp) f.in_cs f.in_rs w.0.base t.untold origin (put-of N i life log rs n old IsHandledIn h e p s c a b makes.1 d.1) a in
     subst (λ (cs : List Record). Life N i life (log ++ logged_by old h p (action.Waits name value) rs) cs (records_after old h p (action.Waits name value) rs) n) (ap (λ (x : Server). x.records) (sym makes.2))
     (subst (λ (m : ℕ). Life N i life (log ++ Waits p.circuit p.place m (stored_now old value) ∷ []) (with_record name (with_waiting put) old.records) (event.with_record name (λ (r : RecordSide). record r { waiting = r.waiting ++ p ∷ [] }) rs) n) (sym w.0.number)
     (subst (λ (m : List ℕ). Life N i life (log ++ Waits p.circuit p.place f.r.number (stored_now old value) ∷ []) (with_record m (with_waiting put) old.records) (event.with_record m (λ (r : RecordSide). record r { waiting = r.waiting ++ p ∷ [] }) rs) n) f.named after))

@@ -53,13 +53,13 @@ module _ (Is : PutPlace → Put → Type 0) where
   one-finished y side s b (w ∷ ws) name number p [] free other based slow a = absurd a.each
   one-finished y side s b (w ∷ ws) name number p (q ∷ ps) free other based slow a =
       let r : RecordSide = record { name = name; number = number; busy = Some p; waiting = q ∷ ps } in
-      let next : Entry = Applied q.circuit q.place number (record { value = w.value; meta = written_meta side.core.stamp }) true in
+      let next : Entry = Applied q.circuit q.place number (record { value = w.value; meta = written_meta w.value side.core.stamp }) true in
       let still : IsFinished (y ++ finish_entry p ∷ []) q → ⊥ = λ h. elim (In-snoc y (finish_entry p) (Finished q.circuit q.place) h) [
         | inl old ↦ free q (0, refl) old
         | inr is ↦ (let x : Finished q.circuit q.place ≡ Finished p.circuit p.place = is in let n : q.circuit ≡ p.circuit = cc in let k : q.place ≡ p.place = cc in other q ps refl (place-is q p n k))
       ] in
       subst (λ (l : List Entry). Agrees Is l (finished side.core.stamp (record { state = s; busy = b; waiting = w ∷ ws }) (w ∷ ws)) (next_busy r)) (append-one y (finish_entry p) (next ∷ []))
-      (agrees-next Is (y ++ finish_entry p ∷ []) s w ws name number q ps (written_meta side.core.stamp) (based 0 w refl) still slow (agrees-finished Is y s b (w ∷ ws) name number p (q ∷ ps) a))
+      (agrees-next Is (y ++ finish_entry p ∷ []) s w ws name number q ps (written_meta w.value side.core.stamp) (based 0 w refl) still slow (agrees-finished Is y s b (w ∷ ws) name number p (q ∷ ps) a))
 
   -- another record
   other-finished : (y : List Entry) (side : ServerSide) (c : Record) (r x : RecordSide) (p : PutPlace) (ws : List WaitingPut) (ps : List PutPlace) → (x.number ≡ r.number → ⊥) → (x.busy ≡ Some p → ⊥) → ((q : PutPlace) → In ps q → In x.waiting q → ⊥) → Agrees Is y c x → Agrees Is (y ++ finish_entry p ∷ next_entries side r (first_of ws) (first_of ps)) c x
@@ -67,7 +67,7 @@ module _ (Is : PutPlace → Put → Type 0) where
   other-finished y side c r x p [] (q ∷ ps) other unbusy apart a = agrees-spared Is y c x (finish_entry p) unbusy a
   other-finished y side c r x p (w ∷ ws) [] other unbusy apart a = agrees-spared Is y c x (finish_entry p) unbusy a
   other-finished y side c r x p (w ∷ ws) (q ∷ ps) other unbusy apart a =
-      let next : Entry = Applied q.circuit q.place r.number (record { value = w.value; meta = written_meta side.core.stamp }) true in
+      let next : Entry = Applied q.circuit q.place r.number (record { value = w.value; meta = written_meta w.value side.core.stamp }) true in
       subst (λ (l : List Entry). Agrees Is l c x) (append-one y (finish_entry p) (next ∷ []))
       (agrees-spared Is (y ++ finish_entry p ∷ []) c x next (other, apart q (0, refl)) (agrees-spared Is y c x (finish_entry p) unbusy a))
 
@@ -96,7 +96,7 @@ module _ (Came : (Circuit → (k i : ℕ) → Type 0) → PutPlace → (i : ℕ)
   once-finished y side c r p [] (q ∷ ps) busy each based a once = absurd each
   once-finished y side c r p (w ∷ ws) [] busy each based a once = absurd each
   once-finished y side c r p (w ∷ ws) (q ∷ ps) busy each based a once =
-      let v : Stored = record { value = w.value; meta = written_meta side.core.stamp } in
+      let v : Stored = record { value = w.value; meta = written_meta w.value side.core.stamp } in
       let next : Entry = Applied q.circuit q.place r.number v true in
       subst (λ (l : List Entry). Once Came Lost l) (append-one y (finish_entry p) (next ∷ []))
       (once-told Came Lost (y ++ finish_entry p ∷ []) next (once-told Came Lost y (finish_entry p) once (may-finish y r.number p busy)) (may-next y c r p q w.value each.0.0 v refl (based 0 w refl) a))
@@ -114,7 +114,7 @@ module _ (Came : (Circuit → (k i : ℕ) → Type 0) → PutPlace → (i : ℕ)
       go None q x = first x
       go (Some w) None x = first x
       go (Some w) (Some t) x =
-          let next : Entry = Applied t.circuit t.place r.number (record { value = w.value; meta = written_meta side.core.stamp }) true in
+          let next : Entry = Applied t.circuit t.place r.number (record { value = w.value; meta = written_meta w.value side.core.stamp }) true in
           elim (In-snoc (y ++ finish_entry p ∷ []) next e (subst (λ (l : List Entry). In l e) (sym (append-one y (finish_entry p) (next ∷ []))) x)) [
             | inl old ↦ first old
             | inr new ↦ (let is : r.number ≡ i = subst (λ (z : Entry). IsOf i z) new of_it in omega (arith, lt, is))

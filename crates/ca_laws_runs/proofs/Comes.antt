@@ -120,7 +120,7 @@ module _ (w : World) (k : ℕ) (j : Joined) (y : ServerSide) (e t : ServerEnd) (
 
   pub acted-follow : (did : Action) (new : Server) → Records y.core j.at_server t m did new → From new.records (records_after y.core j.at_server own did y.records)
   acted-follow (Applies name value true) new (b, put, new_is) =
-      let f : Record → Record = λ (r : Record). record (with_value value (written_meta y.core.stamp) r) { busy = Some b } in
+      let f : Record → Record = λ (r : Record). record (with_value value (written_meta value y.core.stamp) r) { busy = Some b } in
       let g : RecordSide → RecordSide = λ (r : RecordSide). record r { busy = Some own } in
       subst (λ (x : Server). From x.records (event.with_record name g y.records)) (sym new_is)
       (follows-with (Comes w j.server) name f g y.core.records y.records (λ c. refl) (λ r. refl)
@@ -129,8 +129,8 @@ module _ (w : World) (k : ℕ) (j : Joined) (y : ServerSide) (e t : ServerEnd) (
       (λ r q in_rs h. inl (r, in_rs, h)))
   acted-follow (Applies name value false) new new_is =
       subst (λ (x : Server). From x.records y.records) (sym new_is)
-      (follows-keep (Comes w j.server) y.core.records (with_record name (with_value value (written_meta y.core.stamp)) y.core.records) y.records y.records
-      (cores-with name (with_value value (written_meta y.core.stamp)) y.core.records (λ c. refl) (λ c. refl) (λ c. refl)) (sides-same y.records))
+      (follows-keep (Comes w j.server) y.core.records (with_record name (with_value value (written_meta value y.core.stamp)) y.core.records) y.records y.records
+      (cores-with name (with_value value (written_meta value y.core.stamp)) y.core.records (λ c. refl) (λ c. refl) (λ c. refl)) (sides-same y.records))
   acted-follow (action.Waits name value) new (b, put, new_is) =
       let x : WaitingPut = record { put = b; value = value } in
       let g : RecordSide → RecordSide = λ (r : RecordSide). record r { waiting = r.waiting ++ own ∷ [] } in

@@ -359,9 +359,9 @@ module _ (s : Setting) (w new : World) (e : Event) (ready_w : Ready s w) (ready_
         → Lines (IsHeadPut w j.server) y.core.records core.records y.records (records_after y.core j.at_server place_of did y.records)
     acted-lines end m q sent same (Applies name value true) core (b, put, is) =
         subst (λ (x : Server). Lines (IsHeadPut w j.server) y.core.records x.records y.records (server.with_record name (λ (r : RecordSide). record r { busy = Some place_of }) y.records)) (sym is)
-        (lines-busied (IsHeadPut w j.server) name (λ (r : Record). record (with_value value (written_meta y.core.stamp) r) { busy = Some b }) place_of b y.core.records y.records (named j.server y at) (λ c. refl) (λ c. refl) (head-put end m q b sent same put))
+        (lines-busied (IsHeadPut w j.server) name (λ (r : Record). record (with_value value (written_meta value y.core.stamp) r) { busy = Some b }) place_of b y.core.records y.records (named j.server y at) (λ c. refl) (λ c. refl) (head-put end m q b sent same put))
     acted-lines end m q sent same (Applies name value false) core is =
-        subst (λ (x : Server). Lines (IsHeadPut w j.server) y.core.records x.records y.records y.records) (sym is) (stored-lines j.server y at name (with_value value (written_meta y.core.stamp)) (λ c. refl) (λ c. refl))
+        subst (λ (x : Server). Lines (IsHeadPut w j.server) y.core.records x.records y.records y.records) (sym is) (stored-lines j.server y at name (with_value value (written_meta value y.core.stamp)) (λ c. refl) (λ c. refl))
     acted-lines end m q sent same (action.Waits name value) core (b, put, is) =
         subst (λ (x : Server). Lines (IsHeadPut w j.server) y.core.records x.records y.records (server.with_record name (λ (r : RecordSide). record r { waiting = r.waiting ++ place_of ∷ [] }) y.records)) (sym is)
         (lines-waiting (IsHeadPut w j.server) name (record { put = b; value = value }) place_of y.core.records y.records (named j.server y at) (long-waiting j.server y at) (head-put end m q b sent same put))

@@ -46,7 +46,7 @@ use Rattle.ca_laws_runs.proofs.OnceRuns.{once-runs}
 use Rattle.ca_laws_runs.proofs.OrderGrows.{ticks-grown}
 use Rattle.ca_laws_runs.proofs.StepWhole.{run-serves, takes-next}
 use Rattle.ca_laws_runs.proofs.ToldGrows.{WorldsOn, event-on, on-grown}
-use Rattle.ca_laws_runs.specs.Carried.{AllTitled, HasNoAlarm, IsTitled, IsWrite, IsWriteTo, LogTitled}
+use Rattle.ca_laws_runs.specs.Carried.{AllTitled, IsAsWritten, IsTitled, IsWrite, IsWriteTo, LogTitled}
 use Rattle.ca_laws_runs.specs.KnewLists.{as_known}
 use Rattle.ca_laws_runs.proofs.Acting.{taken-below}
 use Rattle.ca_laws_runs.proofs.ActsNamedRuns.{run-names}
@@ -143,9 +143,9 @@ titled-on w new n k r log on t =
       added = t.added;
     }
 
--- these writes are of records that are titled in the log before, and store no alarm
+-- these writes are of records that are titled in the log before, and are stored as writes are
 abbrev MayTell : World → List Entry → List Entry → Type 0
-MayTell v log more = (n k r : ℕ) (e : Entry) → In more e → IsWriteTo n k r e → IsTitled v n k r log × HasNoAlarm e
+MayTell v log more = (n k r : ℕ) (e : Entry) → In more e → IsWriteTo n k r e → IsTitled v n k r log × IsAsWritten e
 
 quiet-may : (v : World) (log more : List Entry) → AreQuiet more → MayTell v log more
 quiet-may v log more quiet n k r e there writes = absurd (quiet-none n k r e (quiet there.0 e there.1) writes)
@@ -282,7 +282,7 @@ module _ (v : World) where
           let is : e ≡ entry = only-one entry e there.0 there.1 in
           let same : IsWriteTo n k q entry = subst (λ (f : Entry). IsWriteTo n k q f) is writes in (
             (all n k q (Waits p.circuit p.place r.number came.v) came.came same).0,
-            subst (λ (f : Entry). HasNoAlarm f) (sym is) ((y.core).stamp, refl),
+            subst (λ (f : Entry). IsAsWritten f) (sym is) ((y.core).stamp, refl),
           )
 
   finish-may : (log : List Entry) (p : PutPlace) (es : List Entry) → MayTell v log es → MayTell v log (finish_entry p ∷ es)
@@ -522,13 +522,13 @@ module _ (s : Setting) (es : List Event) (w : World) (ok : IsSetting s) (are : A
   step-may : (new : World) → WorldsOn w new → MayTell new log (entries_by k j y n.action)
   step-may new goes = go n.action n.handles.due
     where
-      one : (x : Entry) (r : ℕ) → IsTitled w k place r log → HasNoAlarm x
+      one : (x : Entry) (r : ℕ) → IsTitled w k place r log → IsAsWritten x
           → ((a c d : ℕ) → IsWriteTo a c d x → (k ≡ a) × (place ≡ c) × (r ≡ d)) → MayTell new log (x ∷ [])
       one x r titled plain parts a c d f (zero, there) tells =
           let is : x ≡ f = some_is x f there in
           let p = parts a c d (subst (λ (z : Entry). IsWriteTo a c d z) (sym is) tells) in (
             titled-on w new a c d log goes (subst (λ (z : ℕ × ℕ × ℕ). IsTitled w z.0 z.1 z.2 log) (λ i. (p.0 i, p.1 i, p.2 i)) titled),
-            subst (λ (z : Entry). HasNoAlarm z) is plain,
+            subst (λ (z : Entry). IsAsWritten z) is plain,
           )
       one x r titled plain parts a c d f (suc i, there) tells = absurd (none_at i f there)
 

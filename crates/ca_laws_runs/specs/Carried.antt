@@ -70,17 +70,17 @@ pub record IsTitled (w : World) (n k r : ℕ) (y : List Entry) : Type 0 where
   pub opened : In x (Opened channel state.name)
   pub added : In y (Added r state)
 
--- what the entry stores has no alarm
-abbrev pub HasNoAlarm : Entry → Type 0
-HasNoAlarm (Waits n k r v) = IsWritten v
-HasNoAlarm (Applied n k r v busies) = IsWritten v
-HasNoAlarm entry = Unit {0}
+-- what the entry stores is as a write stores it
+abbrev pub IsAsWritten : Entry → Type 0
+IsAsWritten (Waits n k r v) = IsWritten v
+IsAsWritten (Applied n k r v busies) = IsWritten v
+IsAsWritten entry = Unit {0}
 
 -- So it is of each write of which the log of any life of a server tells, as the world has the
--- circuits and the logs of clients; and what is stored has no alarm.
+-- circuits and the logs of clients; and what it stores is as a write stores it.
 abbrev pub LogTitled : World → List Entry → Type 0
 LogTitled w y =
-    (n k r : ℕ) (e : Entry) → In y e → IsWriteTo n k r e → IsTitled w n k r y × HasNoAlarm e
+    (n k r : ℕ) (e : Entry) → In y e → IsWriteTo n k r e → IsTitled w n k r y × IsAsWritten e
 
 abbrev pub AllTitled : World → Type 0
 AllTitled w = (life : ℕ) (y : List Entry) → At w.server_logs life y → LogTitled w y

@@ -244,9 +244,9 @@ pub record IsDropped (w : World) (n k l i : ℕ) (y : List Entry) : Type 0 where
       ⊎ (IsCleared c k (sid_in s.message) i ⊎ (c.server_open ≡ false))
 
 -- A write that is applied at entry i has the value that its caller gave, in the type of its record
--- and with that one's display data, and no alarm; the record was there then, under the name of the
--- caller's channel; and it was applied when it was handled, or the server's end closed on it, or
--- after it had waited.
+-- and with that one's display data, and the alarm of that value; the record was there then, under
+-- the name of the caller's channel; and it was applied when it was handled, or the server's end
+-- closed on it, or after it had waited.
 pub record IsOwnWrite (w : World) (n k l i r : ℕ) (v : Stored) : Type 0 where
   pub c : Circuit
   pub x : List Line

@@ -145,7 +145,7 @@ IsWithdrawal n c y sid e =
     (k r : ℕ) × (s : Sent) × In (waiting y r) (n, k) × At c.up k s × (sid_in s.message ≡ sid)
     × (e ≡ Withdrawn n k)
 
--- The write at place k is logged, with no alarm and some stamp.
+-- The write at place k is logged, as a write stores it.
 abbrev pub IsLogged : (n k : ℕ) → List Entry → Action → List Entry → Type 0
 IsLogged n k y (Applies name value busies) logs =
     (r : ℕ) × (v : Stored) × Has y r name × (v.value ≡ value)

@@ -8,6 +8,9 @@ use Rattle.std.specs.List.{flat_map, list_any}
 use Rattle.std.specs.Str.{bytes_eq}
 use Rattle.ca_arena.specs.declared.handle.Handle.{Handle}
 use Rattle.ca_beacon.specs.Clock as beacon
+use Rattle.ca_dbr.specs.Display.{DisplayData}
+use Rattle.ca_dbr.specs.Elements.{displayed}
+use Rattle.ca_dbr.specs.Held.{bare}
 use Rattle.ca_dgram.specs.Datagram.{IsDatagram}
 use Rattle.ca_dgram.specs.Packing.{ArePacked}
 use Rattle.ca_dgram.specs.Messages.{beacon_message}
@@ -19,7 +22,7 @@ use Rattle.ca_records.specs.Calls.{AddFault, MayAdd, PostFault, PostFits}
 use Rattle.ca_records.specs.declared.puts.Put.{Put}
 use Rattle.ca_records.specs.declared.puts.Stamp.{Stamp}
 use Rattle.ca_records.specs.Puts.{Record, WaitingPut, finished, new_record, record_named, removed}
-use Rattle.ca_records.specs.Puts.{waiting_in, with_record, with_value, withdrawn}
+use Rattle.ca_records.specs.Puts.{shown_by, waiting_in, with_record, with_value, withdrawn}
 use Rattle.ca_records.specs.Record.{RecordState}
 use Rattle.ca_text.specs.Command.{command_number}
 use Rattle.ca_text.specs.declared.command.Command.TheVariants as command
@@ -49,6 +52,27 @@ Posts old name v mask gone (Ok _) new =
     PostFits old.records name v.value × MayEnd old name mask gone
     × (new ≡ after_post name mask v gone stored)
 Posts old name v mask gone (Err e) new = PostFault old.records name v.value e × (new ≡ old)
+
+-- ---- display data
+
+-- the mask of a change of display data: PROPERTY ("CA_PROTO_EVENT_ADD")
+abbrev pub property_mask : ℕ
+property_mask = 8
+
+-- `set_display`: the record and what waits for it are shown by these display data now, and all
+-- subscriptions with that bit get its value, which stays. Circuits that it concerns may end out of
+-- memory.
+abbrev pub SetsDisplay : Server → List ℕ → DisplayData → (gone : Handle → Bool)
+    → Result (Unit {0}) Refusal → Server → Type 0
+SetsDisplay old name d gone (Ok _) new =
+    let shown : Server = record old { records = with_record name (shown_by d) old.records } in
+    (r : Record) × (record_named old.records name ≡ Some r) × MayEnd old name property_mask gone
+    × (new
+    ≡ after_post name property_mask
+    (record { value = displayed d (bare r.state.value); meta = r.state.meta }) gone shown)
+SetsDisplay old name d gone (Err refusal.UnknownRecord) new =
+    (record_named old.records name ≡ None) × (new ≡ old)
+SetsDisplay old name d gone (Err e) new = ⊥
 
 -- ---- finishes
 

@@ -15,7 +15,7 @@ use Rattle.ca_queue.specs.Keys.{same}
 use Rattle.ca_queue.specs.Queue.{Queue, added, posted, with_front_taken}
 use Rattle.ca_queue.specs.Waiting.{taken}
 use Rattle.ca_records.specs.declared.puts.Put.{Put}
-use Rattle.ca_records.specs.Puts.{Record, record_named, with_record, with_value, with_waiting}
+use Rattle.ca_records.specs.Puts.{Record, record_named, with_record, with_waiting, with_write}
 use Rattle.ca_records.specs.Puts.{withdrawn, written_meta}
 use Rattle.ca_text.specs.declared.refusal.Refusal.{Refusal}
 use Rattle.ca_text.specs.declared.refusal.Refusal.TheVariants as refusal
@@ -137,7 +137,7 @@ write_mask = 3
 
 -- what a write to this server stores now: the value, and the stamp that was handed in last
 abbrev pub stored_now : Server → Elements → Stored
-stored_now y value = record { value = value; meta = written_meta y.stamp }
+stored_now y value = record { value = value; meta = written_meta value y.stamp }
 
 -- one more write was applied
 abbrev pub counted : Server → Server
@@ -235,15 +235,13 @@ IsPut h e m p =
 -- "CA_PROTO_CLEAR_CHANNEL").
 abbrev pub Records : Server → Handle → ServerEnd → Fields → Action → Server → Type 0
 Records y h e m (Applies name value false) new =
-    new ≡ counted
-    (record y { records = with_record name (with_value value (written_meta y.stamp)) y.records })
+    new ≡ counted (record y { records = with_record name (with_write value y.stamp) y.records })
 Records y h e m (Applies name value true) new =
     (p : Put) × IsPut h e m p
     × (new ≡ counted
     (record y {
       records = with_record name
-          (λ (r : Record). record
-          (with_value value (written_meta y.stamp) r) { busy = Some p }) y.records;
+          (λ (r : Record). record (with_write value y.stamp r) { busy = Some p }) y.records;
     }))
 Records y h e m (Waits name value) new =
     (p : Put) × IsPut h e m p

@@ -5,6 +5,8 @@ use Rattle.ca_text.specs.Place.{At}
 use Rattle.ca_text.specs.Status.{normal}
 use Rattle.ca_text.proofs.Places.{some_is}
 use Rattle.ca_text.specs.declared.command.Command.TheVariants as command
+use Rattle.ca_dbr.specs.Held.{display_of}
+use Rattle.ca_display.specs.Alarm.{alarm_by}
 use Rattle.ca_dbr.specs.declared.value.Outcome.TheVariants as outcome
 use Rattle.ca_wire.specs.Fields.{Fields}
 use Rattle.ca_wire.specs.Messages.{header_only, status_reply}
@@ -211,10 +213,10 @@ never-besides s =
 
 -- ---- a write with an alarm
 
--- an entry of a write has no alarm
+-- an entry of a write has the alarm of its value
 abbrev Calm : Entry → Type 0
-Calm (Applied n k r v b) = v.meta.severity ≡ 0
-Calm (Waits n k r v) = v.meta.severity ≡ 0
+Calm (Applied n k r v b) = v.meta.severity ≡ (alarm_by (display_of v.value) v.value).1
+Calm (Waits n k r v) = v.meta.severity ≡ (alarm_by (display_of v.value) v.value).1
 Calm e = Unit {0}
 
 withdrawn-calm : (e : Entry) (n k : ℕ) → e ≡ Withdrawn n k → Calm e

@@ -151,10 +151,11 @@ abbrev pub WaveAsChars : Type 0
 WaveAsChars =
     (padded (shown_as 4 wave 3) ≡ 7 ∷ 0 ∷ 0 ∷ 0 ∷ 0 ∷ 0 ∷ 0 ∷ 0 ∷ []) × (shown_as 4 wave 0 ≡ 7 ∷ [])
 
--- a written value has no alarm, and the stamp of the write
+-- a written value has no alarm, as it has no limits, and the stamp of the write
 abbrev pub WrittenAsTimeLong : Type 0
 WrittenAsTimeLong =
-    shown_as 19 (record temp { meta = written_meta (record { seconds = 258; nanos = 3 }) }) 1
+    shown_as 19
+    (record temp { meta = written_meta temp.value (record { seconds = 258; nanos = 3 }) }) 1
     ≡ 0 ∷ 0 ∷ 0 ∷ 0 ∷ 0 ∷ 0 ∷ 1 ∷ 2 ∷ 0 ∷ 0 ∷ 0 ∷ 3 ∷ 0 ∷ 0 ∷ 0 ∷ 21 ∷ []
 
 -- VOLT is 21 V: as GR_LONG, with its unit and six limits; as CTRL_LONG, with the two limits for
@@ -190,6 +191,13 @@ text_4x2 = strings ((52 ∷ 120 ∷ 50 ∷ replicate 37 0) ∷ [])
 abbrev pub text_minus_1 : Elements
 text_minus_1 = strings ((45 ∷ 49 ∷ replicate 38 0) ∷ [])
 
+-- "2.75", and that as a DOUBLE
+abbrev pub text_2_75 : Elements
+text_2_75 = strings ((50 ∷ 46 ∷ 55 ∷ 53 ∷ replicate 36 0) ∷ [])
+
+abbrev pub double_2_75 : Elements
+double_2_75 = doubles (4613374868287651840 ∷ [])
+
 -- a LONG in millimetres
 abbrev pub in_mm : ℤ → Elements
 in_mm z =
@@ -203,7 +211,7 @@ in_mm z =
     (longs (z ∷ []))
 
 -- "42" is 42, "4x2" is no number, and "-1" as CHAR lies outside; and what is written to a record
--- has its unit
+-- with display data has its unit, and is a number towards zero
 abbrev pub Converts : Type 0
 Converts =
     (converted text_42 base.Long ≡ Ok (longs (pos 42 ∷ [])))
@@ -211,6 +219,8 @@ Converts =
     × (converted text_minus_1 base.Long ≡ Ok (longs (negsuc 0 ∷ [])))
     × (converted (longs (negsuc 0 ∷ [])) base.Char ≡ Err refusal.OutOfRange)
     × (given_as text_42 (kind_of (in_mm (pos 21))) ≡ Ok (in_mm (pos 42)))
+    × (given_as text_2_75 (kind_of (in_mm (pos 21))) ≡ Ok (in_mm (pos 2)))
+    × (given_as double_2_75 (kind_of (in_mm (pos 21))) ≡ Ok (in_mm (pos 2)))
 
 -- ---- faults of a read, in their order: of each two that follow each other the first decides
 

@@ -69,9 +69,9 @@ pub fn a_read_completes_once()
     ensures twice { BreaksOnly CompletedOnce (disconnected (read_lost ∷ read_lost ∷ [])) }
 {}
 
-/// A put on which its server's end closed is made once, with its caller's value and no alarm, on a
-/// record that is there; not if nobody called it, nor while the server's end is open and did not
-/// handle it.
+/// A put on which its server's end closed is made once, with its caller's value and no alarm but
+/// the value's own, on a record that is there; not if nobody called it, nor while the server's end
+/// is open and did not handle it.
 pub fn a_put_is_made_once()
     ensures once { IsSafeNow (put_closing made_once) }
     ensures twice { BreaksOnly AppliedOnce (put_closing made_twice) }

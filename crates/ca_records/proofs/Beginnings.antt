@@ -2,15 +2,13 @@
 use Rattle.std.proofs.Common.{◌≡◌, ℕ, ◌<◌, ◌≤◌, inl, Bool, true, false, not, if◌then◌else◌, IfOk, OnErr, nat_lt, None, Ok, Err, Option, Result, length, sym, ap, ◌∙◌}
 use Rattle.std.specs.declared.alloc.AllocError.{AllocError}
 use Rattle.ca_text.specs.Limits.{waiting_puts}
-use Rattle.ca_text.specs.declared.refusal.Refusal.{Refusal}
-use Rattle.ca_dbr.specs.declared.data_type.BaseType.{BaseType}
-use Rattle.ca_dbr.specs.Conversion.{converted}
 use Rattle.ca_dbr.specs.declared.value.Value.{Value}
-use Rattle.ca_dbr.specs.Elements.{Elements, base_of, count_of, elements}
+use Rattle.ca_dbr.specs.Elements.{Elements, count_of, elements}
 use Rattle.ca_dbr.specs.Held.{IsHeldValue, kind_of}
 use Rattle.ca_records.specs.declared.puts.Begun.{Begun}
 use Rattle.ca_records.specs.declared.puts.Begun.TheVariants.{Applied, Refused, Waiting}
 use Rattle.ca_records.specs.Faults.{put_fault}
+use Rattle.ca_records.specs.Judging.{converted_as}
 use Rattle.ca_records.specs.Layout.{IsFit}
 use Rattle.ca_records.specs.declared.puts.Put.{Put}
 use Rattle.ca_records.specs.declared.puts.Stamp.{Stamp}
@@ -35,11 +33,11 @@ is-fit s e v record_is some within made valued =
 abbrev pub is_crowded : Record → Option Put → Bool
 is_crowded r put = if must_wait r put then not (nat_lt (length r.waiting) waiting_puts) else false
 
-pub judged-fault : (r : Record) (put : Option Put) (a : Value) (b : BaseType) (crowded : Bool) (f : Option ℕ) → b ≡ base_of r.state.value → crowded ≡ is_crowded r put → put_fault (converted (elements a) b) crowded ≡ f → write_fault r put (elements a) ≡ f
-judged-fault r put a b crowded f based crowd fault =
+pub judged-fault : (r : Record) (put : Option Put) (a : Value) (held : Elements) (crowded : Bool) (f : Option ℕ) → held ≡ r.state.value → crowded ≡ is_crowded r put → put_fault (converted_as (elements a) (kind_of held)) crowded ≡ f → write_fault r put (elements a) ≡ f
+judged-fault r put a held crowded f same crowd fault =
     fault-given a r.state.value (is_crowded r put)
-    ∙ ap (λ (x : BaseType). put_fault (converted (elements a) x) (is_crowded r put)) (sym based)
-    ∙ ap (λ (c : Bool). put_fault (converted (elements a) b) c) (sym crowd)
+    ∙ ap (λ (h : Elements). put_fault (converted_as (elements a) (kind_of h)) (is_crowded r put)) (sym same)
+    ∙ ap (λ (c : Bool). put_fault (converted_as (elements a) (kind_of held)) c) (sym crowd)
     ∙ fault
 
 pub begins-taken : (s : Stamp) (r : Record) (put : Option Put) (e v : Elements) (result : Result Begun AllocError) (next : Record) → write_fault r put e ≡ None → given_as e (kind_of r.state.value) ≡ Ok v → IfOk result (λ begun. Takes s r put v begun next) → OnErr result ((must_wait r put ≡ true) × (next ≡ r)) → BeginsOn s r put e result next

@@ -1,10 +1,12 @@
 -- What the calls on one record make of the store.
 use Rattle.std.proofs.Common.{◌≡◌, inl, inr, ℕ, zero, suc, ◌+◌, ◌≤◌, Bool, true, false, List, [], ◌∷◌, length, filter, not, Option, None, Some, Ok, Err, Result, slice_set, refl, sym, ap, ◌∙◌, subst, arith}
-use Rattle.std.proofs.lemmas.List.{length_push}
+use Rattle.std.proofs.lemmas.List.{length-map, length_push}
 use Rattle.std.specs.declared.alloc.AllocError.{AllocError}
 use Rattle.ca_arena.specs.declared.handle.Handle.{Handle}
 use Rattle.ca_dbr.specs.declared.value.Meta.{Meta}
-use Rattle.ca_dbr.specs.Elements.{Elements}
+use Rattle.ca_dbr.specs.Display.{DisplayData}
+use Rattle.ca_dbr.specs.Elements.{Elements, displayed}
+use Rattle.ca_dbr.specs.Held.{bare}
 use Rattle.ca_text.specs.declared.refusal.Refusal.{Refusal}
 use Rattle.ca_text.specs.declared.refusal.Refusal.TheVariants as refusal
 use Rattle.ca_text.specs.Place.{At}
@@ -19,11 +21,10 @@ use Rattle.ca_records.specs.Judging.{fewer_waiting, more_waiting}
 use Rattle.ca_records.specs.Layout.{IsFit}
 use Rattle.ca_records.specs.declared.puts.Put.{Put}
 use Rattle.ca_records.specs.declared.puts.Stamp.{Stamp}
-use Rattle.ca_records.specs.Puts.{Record, WaitingPut, finished, record_named, with_value, withdrawn, without_puts}
-use Rattle.ca_records.specs.Record.{RecordState}
+use Rattle.ca_records.specs.Puts.{Record, WaitingPut, finished, record_named, shown_by, with_value, withdrawn, without_puts}
 use Rattle.ca_records.specs.Rules.{Rule}
 use Rattle.ca_records.specs.Store.{Becomes, Finds, Store, present, records_of}
-use Rattle.ca_records.specs.Writes.{Begins, BeginsOn, Finishes, FinishesOn, Posts, Turns, Withdraws, is_of, next_put}
+use Rattle.ca_records.specs.Writes.{Begins, BeginsOn, Finishes, FinishesOn, Posts, SetsDisplay, Turns, Withdraws, is_of, next_put}
 use Rattle.ca_records.proofs.Presence.{waiting-gone}
 use Rattle.ca_records.proofs.Steps.{Change, change, found-at, seen, seen-full, store_of}
 use Rattle.ca_records.proofs.Waiters.{true_or_false}
@@ -175,4 +176,20 @@ post-step slots free f waiting rules stamp name place r next e meta stored full 
     record {
       stored = made.stored;
       posts = ((r, it.1, fit.based, fit.holds.one, fit.holds.within), (r, subst (λ (q : Record). Turns (store_of slots rules stamp) name place r q (store_of (slice_set slots place (Full next)) rules stamp)) is turned));
+    }
+
+-- ---- display data
+
+pub record DisplayStep (slots : List RecordSlot) (free : Option ℕ) (f : List ℕ → Option ℕ) (rules : List Rule) (stamp : Stamp) (name : List ℕ) (place : ℕ) (next : Record) (d : DisplayData) (waiting : ℕ) : Type 0 where
+  pub stored : IsStored (slice_set slots place (Full next)) free f waiting
+  pub sets : SetsDisplay (store_of slots rules stamp) name d (Ok place) (store_of (slice_set slots place (Full next)) rules stamp)
+
+pub display-step : (slots : List RecordSlot) (free : Option ℕ) (f : List ℕ → Option ℕ) (waiting : ℕ) (rules : List Rule) (stamp : Stamp) (name : List ℕ) (place : ℕ) (r next : Record) (d : DisplayData) → IsStored slots free f waiting → At slots place (Full r) → Finds (store_of slots rules stamp) name place → next ≡ shown_by d r → DisplayStep slots free f rules stamp name place next d waiting
+display-step slots free f waiting rules stamp name place r next d stored full found is =
+    let counts : length next.waiting ≡ length r.waiting = ap (λ (q : Record). length q.waiting) is ∙ length-map r.waiting (λ (p : WaitingPut). record p { value = displayed d (bare p.value) }) in
+    let made : Change slots free f rules stamp place r next waiting = change slots free f waiting waiting rules stamp place r next stored full (ap (λ (q : Record). q.state.name) is) (omega (arith, counts)) in
+    let turned = turns slots free f rules stamp name place r next waiting found full made in
+    record {
+      stored = made.stored;
+      sets = (r, subst (λ (q : Record). Turns (store_of slots rules stamp) name place r q (store_of (slice_set slots place (Full next)) rules stamp)) is turned);
     }

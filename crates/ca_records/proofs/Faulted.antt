@@ -1,36 +1,27 @@
 -- How the faults of a write follow one another.
-use Rattle.std.proofs.Common.{◌≡◌, ◌≢◌, inl, inr, false, None, Ok, Err, IsOk, Result, refl}
+use Rattle.std.proofs.Common.{◌≡◌, ◌≢◌, inl, inr, false, Option, Some, None, Ok, Err, IsOk, Result, refl}
 use Rattle.ca_text.specs.declared.refusal.Refusal.{Refusal}
 use Rattle.ca_text.specs.declared.refusal.Refusal.TheVariants as refusal
 use Rattle.ca_dbr.specs.declared.data_type.BaseType.{BaseType}
-use Rattle.ca_dbr.specs.Conversion.{Fails, HasConversion, IsFault, converted}
+use Rattle.ca_dbr.specs.Conversion.{Fails}
+use Rattle.ca_dbr.specs.Display.{DisplayData}
 use Rattle.ca_dbr.specs.Elements.{Elements, base_of}
-use Rattle.ca_dbr.proofs.Faults.{converted-fault, converted-none}
+use Rattle.ca_dbr.specs.Held.{Kind}
+use Rattle.ca_display.proofs.Values.{converted-memory, display_converted-memory}
 use Rattle.ca_records.specs.declared.judged.Judged.TheVariants.{NoMemory}
 use Rattle.ca_records.specs.Faults.{put_fault}
-use Rattle.ca_records.specs.Judging.{Judges}
-
-not_text : refusal.OutOfMemory ≡ refusal.BadText → ⊥
-not_text h = cc
-
-not_range : refusal.OutOfMemory ≡ refusal.OutOfRange → ⊥
-not_range h = cc
-
-not_fault : IsFault refusal.OutOfMemory → ⊥
-not_fault (inl f) = not_text f
-not_fault (inr f) = not_range f
+use Rattle.ca_display.specs.Conversion.{converted_by}
+use Rattle.ca_records.specs.Judging.{Judges, converted_as}
 
 -- a conversion has no fault as out of memory
-pub converted-memory : (e : Elements) (b : BaseType) → converted e b ≡ Err refusal.OutOfMemory → ⊥
-converted-memory e b h =
-    let none : HasConversion (base_of e) b → ⊥ = λ c. not_fault (converted-fault e b c refusal.OutOfMemory h) in
-    let other : converted e b ≡ Err refusal.NoConvert = converted-none e b none in
-    cc
+converted-never : (o : Option DisplayData) (e : Elements) (b : BaseType) → converted_by o e b ≡ Err refusal.OutOfMemory → ⊥
+converted-never None e b h = converted-memory e b h
+converted-never (Some d) e b h = display_converted-memory d e b h
 
 pub put_fault-none : (c : Result Elements Refusal) → IsOk c → put_fault c false ≡ None
 put_fault-none (Ok v) h = refl
 put_fault-none (Err r) h = absurd cc
 
-pub lacks-memory : (e : Elements) (b : BaseType) → base_of e ≢ b → Fails (converted e b) refusal.OutOfMemory → Judges e b false NoMemory
-lacks-memory e b other (inl h) = absurd (converted-memory e b h)
-lacks-memory e b other (inr h) = (put_fault-none (converted e b) h.1, other)
+pub lacks-memory : (e : Elements) (k : Kind) → base_of e ≢ k.base → Fails (converted_as e k) refusal.OutOfMemory → Judges e k false NoMemory
+lacks-memory e k other (inl h) = absurd (converted-never k.display e k.base h)
+lacks-memory e k other (inr h) = (put_fault-none (converted_as e k) h.1, other)

@@ -1,5 +1,5 @@
 -- What a change at one name leaves at each name, in a map that hashes its names.
-use Rattle.std.proofs.Common.{◌≡◌, ℕ, Bool, true, false, cond, inl, inr, List, Option, None, Some, ap, sym, subst}
+use Rattle.std.proofs.Common.{◌≡◌, ℕ, true, false, cond, inl, inr, List, Option, Some, ap, sym, subst}
 use Rattle.std.specs.HashMap as hash
 use Rattle.std.specs.HashMap.{HashMap}
 use Rattle.std.specs.Map.{IsKeyTest, KeepsOthers}

@@ -2,9 +2,8 @@
 use Rattle.std.proofs.Common.{◌≡◌, ℕ, ◌+◌, ◌≤◌, ◌&&◌, Bool, true, false, not, List, [], ◌∷◌, length, is_some, if◌then◌else◌, nat_lt, Option, None, Some, Ok, Result, slice_set, refl, sym, ap, ◌∙◌, subst, arith}
 use Rattle.ca_dbr.specs.declared.data_type.BaseType.{BaseType}
 use Rattle.ca_dbr.specs.declared.value.Meta.{Meta}
-use Rattle.ca_dbr.specs.Conversion.{converted, with_data}
-use Rattle.ca_dbr.specs.Held.{kind_of}
-use Rattle.ca_dbr.specs.Elements.{Elements, strings, ints, floats, enums, chars, longs, doubles, displayed, base_of, count_of, IsValue}
+use Rattle.ca_dbr.specs.Held.{Kind, kind_of}
+use Rattle.ca_dbr.specs.Elements.{Elements, base_of, count_of, IsValue}
 use Rattle.ca_dbr.specs.Reading.{CanReadOver, ReadsElements, least_size}
 use Rattle.ca_dbr.specs.Types.{base_number}
 use Rattle.ca_text.specs.Limits.{waiting_puts}
@@ -13,12 +12,13 @@ use Rattle.ca_text.proofs.Places.{At-one, some_is}
 use Rattle.ca_text.specs.declared.refusal.Refusal.{Refusal}
 use Rattle.ca_records.specs.declared.puts.Begun.TheVariants.{Applied}
 use Rattle.ca_records.specs.declared.puts.Put.{Put}
+use Rattle.ca_records.specs.declared.puts.QueuedPut.{QueuedPut}
 use Rattle.ca_records.specs.declared.puts.Stamp.{Stamp}
 use Rattle.ca_records.specs.declared.slot.RecordSlot.{RecordSlot}
 use Rattle.ca_records.specs.declared.slot.RecordSlot.TheVariants.{Full}
 use Rattle.ca_records.specs.Chain.{IsStored}
 use Rattle.ca_records.specs.Faults.{put_fault}
-use Rattle.ca_records.specs.Layout.{AreFit}
+use Rattle.ca_records.specs.Layout.{AreFit, waiting_on}
 use Rattle.ca_records.specs.Given.{given_as}
 use Rattle.ca_records.specs.Over.{IsOne, PutsOver, TakesOver, WritesOver, in_place_of}
 use Rattle.ca_records.specs.Puts.{Record, WaitingPut, with_value, written_meta}
@@ -27,6 +27,7 @@ use Rattle.ca_records.specs.Rules.{Rule}
 use Rattle.ca_records.specs.Writes.{BeginsOn, CanPutOne, CanWriteOne, PutsOne, WritesOne, must_wait, write_fault}
 use Rattle.ca_dbr.proofs.Helds.{display_of-valued}
 use Rattle.ca_records.proofs.Givens.{given-own, kind_of-displayed}
+use Rattle.ca_records.proofs.Waiters.{waits-alike}
 use Rattle.ca_records.proofs.Steps.{Change, change, seen, seen-full, store_of}
 
 -- what waits fits a record of the same type and count
@@ -42,27 +43,41 @@ still-fit s t count based (w ∷ ws) fit =
       still-fit s t count based ws fit.1,
     )
 
-pub kept-fit : (number : ℕ) (bytes : List ℕ) (meta : Meta) (old : RecordState) (result : Bool) (new : RecordState) (ws : List WaitingPut) → TakesOver number bytes meta old result new → AreFit old ws → AreFit new ws
-kept-fit number bytes meta old true new ws over fit =
-    still-fit old new (ap (λ (s : RecordState). s.count) over.2) (ap (λ (s : RecordState). kind_of s.value) over.2 ∙ kind_of-displayed over.0 old.value (display_of-valued over.0 over.1.reads.valued) over.1.reads.based) ws fit
-kept-fit number bytes meta old false new ws over fit = subst (λ (s : RecordState). AreFit s ws) (sym over.1) fit
+over-kind : (number : ℕ) (bytes : List ℕ) (meta : Elements → Meta) (old new : RecordState) → TakesOver number bytes meta old true new → kind_of new.value ≡ kind_of old.value
+over-kind number bytes meta old new over =
+    ap (λ (s : RecordState). kind_of s.value) over.2 ∙ kind_of-displayed over.0 old.value (display_of-valued over.0 over.1.reads.valued) over.1.reads.based
 
-converted-own : (e : Elements) → converted e (base_of e) ≡ (let same : Result Elements Refusal = Ok e in same)
-converted-own (strings xs) = refl
-converted-own (ints xs) = refl
-converted-own (floats xs) = refl
-converted-own (enums xs) = refl
-converted-own (chars xs) = refl
-converted-own (longs xs) = refl
-converted-own (doubles xs) = refl
-converted-own (displayed d e) = ap (λ (r : Result Elements Refusal). with_data d r) (converted-own e)
+-- what waits stays as it is
+over-alike : (number : ℕ) (bytes : List ℕ) (meta : Elements → Meta) (old : RecordState) (result : Bool) (new : RecordState) (ws : List QueuedPut) → TakesOver number bytes meta old result new → waiting_on new ws ≡ waiting_on old ws
+over-alike number bytes meta old true new ws over = waits-alike old new ws (ap (λ (k : Kind). k.display) (over-kind number bytes meta old new over))
+over-alike number bytes meta old false new ws over = ap (λ (s : RecordState). waiting_on s ws) over.1
+
+pub kept-fit : (number : ℕ) (bytes : List ℕ) (meta : Elements → Meta) (old : RecordState) (result : Bool) (new : RecordState) (ws : List QueuedPut) → TakesOver number bytes meta old result new → AreFit old (waiting_on old ws) → AreFit new (waiting_on new ws)
+kept-fit number bytes meta old result new ws over fit = subst (λ (qs : List WaitingPut). AreFit new qs) (sym (over-alike number bytes meta old result new ws over)) (by result over)
+  where
+    by : (result : Bool) → TakesOver number bytes meta old result new → AreFit new (waiting_on old ws)
+    by true over = still-fit old new (ap (λ (s : RecordState). s.count) over.2) (over-kind number bytes meta old new over) (waiting_on old ws) fit
+    by false over = subst (λ (s : RecordState). AreFit s (waiting_on old ws)) (sym over.1) fit
+
+pub writes-over : (s : Stamp) (old new : RecordState) (busy : Option Put) (ws : List QueuedPut) (is_put : Bool) (number : ℕ) (bytes : List ℕ) (result : Bool) → (is_put && is_some busy) ≡ false → (is_put && old.slow) ≡ false → TakesOver number bytes (λ h. written_meta h s) old result new → let r : Record = record { state = old; busy = busy; waiting = waiting_on old ws } in let q : Record = record { state = new; busy = busy; waiting = waiting_on new ws } in WritesOver s r is_put number bytes result q
+writes-over s old new busy ws is_put number bytes true free quick over =
+    let v : Elements = in_place_of old.value over.0 in (
+      over.0,
+      over.1,
+      free,
+      quick,
+      ap (λ (x : RecordState). let q : Record = record { state = x; busy = busy; waiting = waiting_on new ws } in q) over.2
+          ∙ ap (λ (ps : List WaitingPut). let q : Record = record { state = record old { value = v; meta = written_meta v s }; busy = busy; waiting = ps } in q) (over-alike number bytes (λ h. written_meta h s) old true new ws over),
+    )
+writes-over s old new busy ws is_put number bytes false free quick over =
+    ((λ f q can. over.0 can), ap (λ (x : RecordState). let q : Record = record { state = x; busy = busy; waiting = waiting_on x ws } in q) over.1)
 
 -- an element of the record's own type has no fault
-one-applied : (s : Stamp) (r : Record) (put : Option Put) (e : Elements) (next : Record) → IsValue e → base_of e ≡ base_of r.state.value → must_wait r put ≡ false → (is_some put && r.state.slow) ≡ false → next ≡ with_value (in_place_of r.state.value e) (written_meta s) r → BeginsOn s r put e (Ok (Applied false)) next
+one-applied : (s : Stamp) (r : Record) (put : Option Put) (e : Elements) (next : Record) → IsValue e → base_of e ≡ base_of r.state.value → must_wait r put ≡ false → (is_some put && r.state.slow) ≡ false → next ≡ with_value (in_place_of r.state.value e) (written_meta (in_place_of r.state.value e) s) r → BeginsOn s r put e (Ok (Applied false)) next
 one-applied s r put e next valued based free quick is =
     let v : Elements = in_place_of r.state.value e in
     let own : Result Elements Refusal = Ok v in
-    let made : given_as e (kind_of r.state.value) ≡ own = given-own e r.state.value (display_of-valued e valued) based (converted-own e) in
+    let made : given_as e (kind_of r.state.value) ≡ own = given-own e r.state.value (display_of-valued e valued) based in
     let none : write_fault r put e ≡ None =
     ap (λ (c : Result Elements Refusal). put_fault c (if must_wait r put then not (nat_lt (length r.waiting) waiting_puts) else false)) made
     ∙ ap (λ (w : Bool). put_fault own (if w then not (nat_lt (length r.waiting) waiting_puts) else false)) free in
@@ -108,11 +123,11 @@ over-step slots free f waiting rules stamp place r next is_put number bytes fals
 
 -- ---- a put that makes its record busy
 
-put-applied : (s : Stamp) (r : Record) (put : Put) (e : Elements) (next : Record) → IsValue e → base_of e ≡ base_of r.state.value → r.busy ≡ None → r.state.slow ≡ true → next ≡ record (with_value (in_place_of r.state.value e) (written_meta s) r) { busy = Some put } → BeginsOn s r (Some put) e (Ok (Applied true)) next
+put-applied : (s : Stamp) (r : Record) (put : Put) (e : Elements) (next : Record) → IsValue e → base_of e ≡ base_of r.state.value → r.busy ≡ None → r.state.slow ≡ true → next ≡ record (with_value (in_place_of r.state.value e) (written_meta (in_place_of r.state.value e) s) r) { busy = Some put } → BeginsOn s r (Some put) e (Ok (Applied true)) next
 put-applied s r put e next valued based free slow is =
     let v : Elements = in_place_of r.state.value e in
     let own : Result Elements Refusal = Ok v in
-    let made : given_as e (kind_of r.state.value) ≡ own = given-own e r.state.value (display_of-valued e valued) based (converted-own e) in
+    let made : given_as e (kind_of r.state.value) ≡ own = given-own e r.state.value (display_of-valued e valued) based in
     let none : write_fault r (Some put) e ≡ None =
     ap (λ (c : Result Elements Refusal). put_fault c (if is_some r.busy then not (nat_lt (length r.waiting) waiting_puts) else false)) made
     ∙ ap (λ (o : Option Put). put_fault own (if is_some o then not (nat_lt (length r.waiting) waiting_puts) else false)) free in

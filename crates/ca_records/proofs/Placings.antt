@@ -1,11 +1,10 @@
 -- A value in place of what a record holds, whose display data stay.
-use Rattle.std.proofs.Common.{◌≡◌, ◌≢◌, ℕ, ◌<◌, ◌≤◌, Bool, true, false, List, Option, Some, None, Result, Ok, Err, refl, sym, ap, subst, ◌∙◌, arith}
+use Rattle.std.proofs.Common.{◌≡◌, ◌≢◌, ℕ, ◌≤◌, Bool, true, false, List, Option, Some, None, Result, Ok, Err, refl, sym, ap, subst, ◌∙◌, arith}
 use Rattle.ca_text.specs.declared.refusal.Refusal.{Refusal}
 use Rattle.ca_text.specs.declared.refusal.Refusal.TheVariants as refusal
 use Rattle.ca_dbr.specs.declared.data_type.BaseType.{BaseType}
 use Rattle.ca_dbr.specs.declared.value.Meta.{Meta}
 use Rattle.ca_dbr.specs.declared.value.Value.{Value}
-use Rattle.ca_dbr.specs.Conversion.{converted}
 use Rattle.ca_dbr.specs.Display.{DisplayData}
 use Rattle.ca_dbr.specs.Elements.{Elements, IsValue, base_of, count_of, elements}
 use Rattle.ca_dbr.specs.Held.{IsHeldValue, Kind, bare, display_of, displayed_by, kind_of}
@@ -17,7 +16,8 @@ use Rattle.ca_text.proofs.Places.{At-one, some_is}
 use Rattle.ca_records.specs.Calls.{PostFault}
 use Rattle.ca_records.specs.Faults.{put_fault}
 use Rattle.ca_records.specs.Given.{given_as, in_display}
-use Rattle.ca_records.specs.Layout.{IsFit, MayNotHave}
+use Rattle.ca_records.specs.Judging.{converted_as}
+use Rattle.ca_records.specs.Layout.{MayNotHave}
 use Rattle.ca_records.specs.Over.{TakesOver, in_place_of}
 use Rattle.ca_records.specs.Puts.{Record, record_named}
 use Rattle.ca_records.specs.Record.{HoldsValue, IsRecord, RecordState}
@@ -64,11 +64,11 @@ module _ (s : RecordState) (is : IsRecord s) where
   pub over-not : (number : ℕ) (bytes : List ℕ) (h : Elements) → HoldsOver number bytes s.value false h → IsRecord (record s { value = h })
   over-not number bytes h over = subst (λ (x : Elements). IsRecord (record s { value = x })) (sym over.1) is
 
-  pub takes-over : (number : ℕ) (bytes : List ℕ) (h : Elements) (meta : Meta) → HoldsOver number bytes s.value true h → TakesOver number bytes meta s true (record s { value = h; meta = meta })
+  pub takes-over : (number : ℕ) (bytes : List ℕ) (h : Elements) (meta : Elements → Meta) → HoldsOver number bytes s.value true h → TakesOver number bytes meta s true (record s { value = h; meta = meta h })
   takes-over number bytes h meta over =
       let can = over.0 in
       let some : 1 ≤ s.count = (let one = is.value.one in let within = is.value.within in omega (arith, one, within)) in
-      (over.1.0, record { typed = can.typed; long = can.long; reads = over.1.1; some = some }, ap (λ (x : Elements). record s { value = x; meta = meta }) over.1.2)
+      (over.1.0, record { typed = can.typed; long = can.long; reads = over.1.1; some = some }, ap (λ (x : Elements). record s { value = x; meta = meta x }) over.1.2)
 
 -- ---- what is given to it
 
@@ -81,15 +81,14 @@ alone : (a : Value) → bare (elements a) ≡ elements a
 alone a = bare-alone (elements a) (display_of-elements a)
 
 -- what it is judged by
-pub fault-given : (a : Value) (old : Elements) (crowded : Bool) → put_fault (given_as (elements a) (kind_of old)) crowded ≡ put_fault (converted (elements a) (base_of old)) crowded
+pub fault-given : (a : Value) (old : Elements) (crowded : Bool) → put_fault (given_as (elements a) (kind_of old)) crowded ≡ put_fault (converted_as (elements a) (kind_of old)) crowded
 fault-given a old crowded =
-    ap (λ (x : Elements). put_fault (in_display (display_of old) (converted x (base_of old))) crowded) (alone a)
-    ∙ fault-display (display_of old) (converted (elements a) (base_of old)) crowded
+    ap (λ (x : Elements). put_fault (in_display (display_of old) (converted_as x (kind_of old))) crowded) (alone a) ∙ fault-display (display_of old) (converted_as (elements a) (kind_of old)) crowded
 
 -- what it comes to
-pub given-placed : (a : Value) (old f : Elements) → converted (elements a) (base_of old) ≡ Ok f → given_as (elements a) (kind_of old) ≡ Ok (in_place_of old f)
+pub given-placed : (a : Value) (old f : Elements) → converted_as (elements a) (kind_of old) ≡ Ok f → given_as (elements a) (kind_of old) ≡ Ok (in_place_of old f)
 given-placed a old f made =
-    ap (λ (x : Elements). in_display (display_of old) (converted x (base_of old))) (alone a)
+    ap (λ (x : Elements). in_display (display_of old) (converted_as x (kind_of old))) (alone a)
     ∙ ap (λ (r : Result Elements Refusal). in_display (display_of old) r) made
     ∙ in_display-ok (display_of old) f
 
@@ -98,9 +97,9 @@ refused-display None r = refl
 refused-display (Some d) r = refl
 
 -- and why it does not
-pub given-refused : (a : Value) (old : Elements) (r : Refusal) → converted (elements a) (base_of old) ≡ Err r → given_as (elements a) (kind_of old) ≡ Err r
+pub given-refused : (a : Value) (old : Elements) (r : Refusal) → converted_as (elements a) (kind_of old) ≡ Err r → given_as (elements a) (kind_of old) ≡ Err r
 given-refused a old r made =
-    ap (λ (x : Elements). in_display (display_of old) (converted x (base_of old))) (alone a)
+    ap (λ (x : Elements). in_display (display_of old) (converted_as x (kind_of old))) (alone a)
     ∙ ap (λ (x : Result Elements Refusal). in_display (display_of old) x) made
     ∙ refused-display (display_of old) r
 

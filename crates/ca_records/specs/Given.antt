@@ -3,8 +3,9 @@ use Rattle.std.specs.Prelude.{Option, Some, None, Result}
 use Rattle.ca_text.specs.declared.refusal.Refusal.{Refusal}
 use Rattle.ca_dbr.specs.Display.{DisplayData}
 use Rattle.ca_dbr.specs.Elements.{Elements}
-use Rattle.ca_dbr.specs.Conversion.{converted, with_data}
+use Rattle.ca_dbr.specs.Conversion.{with_data}
 use Rattle.ca_dbr.specs.Held.{Kind, bare}
+use Rattle.ca_display.specs.Conversion.{converted_by}
 
 -- the result, with the display data of a record, if it has some
 abbrev pub in_display : Option DisplayData → Result Elements Refusal → Result Elements Refusal
@@ -13,4 +14,4 @@ in_display (Some d) r = with_data d r
 
 -- these elements as a value of a record of this type
 abbrev pub given_as : Elements → Kind → Result Elements Refusal
-given_as e k = in_display k.display (converted (bare e) k.base)
+given_as e k = in_display k.display (converted_by k.display (bare e) k.base)

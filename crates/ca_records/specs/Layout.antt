@@ -1,19 +1,24 @@
 -- Working: what the fields of a record that is served, and of the store of records, stand for. No
 -- clause of a caller needs it.
-use Rattle.std.specs.Prelude.{ℕ, ◌≡◌, ◌≢◌, ◌<◌, ◌⊎◌, List, Option, Some}
+use Rattle.std.specs.Prelude.{ℕ, ◌≡◌, ◌≢◌, ◌<◌, ◌⊎◌, List, Option, Some, map}
 use Rattle.std.specs.List.{AllByRecursion}
 use Rattle.ca_text.specs.declared.refusal.Refusal.{Refusal}
 use Rattle.ca_text.specs.declared.refusal.Refusal.TheVariants as refusal
 use Rattle.ca_text.specs.Place.{At}
-use Rattle.ca_dbr.specs.Elements.{Elements, count_of}
-use Rattle.ca_dbr.specs.Held.{IsHeldValue, kind_of}
+use Rattle.ca_dbr.specs.Display.{DisplayData}
+use Rattle.ca_dbr.specs.Elements.{Elements, count_of, elements}
+use Rattle.ca_dbr.specs.Held.{IsHeldValue, display_of, displayed_by, kind_of}
 use Rattle.ca_records.specs.declared.puts.QueuedPut.{QueuedPut}
 use Rattle.ca_records.specs.Puts.{Record, WaitingPut}
 use Rattle.ca_records.specs.Record.{HoldsValue, RecordState}
 
--- a put that waits, as contracts see it
-abbrev pub waiting_put : QueuedPut → WaitingPut
-waiting_put w = record { put = w.put; value = w.held }
+-- a put that waits, as contracts see it, for a record with these display data
+abbrev pub waiting_put : Option DisplayData → QueuedPut → WaitingPut
+waiting_put o w = record { put = w.put; value = displayed_by o (elements w.value) }
+
+-- the puts that wait for a record
+abbrev pub waiting_on : RecordState → List QueuedPut → List WaitingPut
+waiting_on s ws = map (waiting_put (display_of s.value)) ws
 
 -- the value is one of the record's type that it may have
 pub record IsFit (s : RecordState) (e : Elements) : Type 0 where

@@ -5,7 +5,10 @@ use Rattle.std.specs.Prelude.{if◌then◌else◌, length, map}
 use Rattle.std.specs.List.{sum_by}
 use Rattle.std.specs.Str.{bytes_eq}
 use Rattle.ca_dbr.specs.declared.value.Meta.{Meta}
-use Rattle.ca_dbr.specs.Elements.{Elements}
+use Rattle.ca_dbr.specs.Display.{DisplayData}
+use Rattle.ca_dbr.specs.Elements.{Elements, displayed}
+use Rattle.ca_dbr.specs.Held.{bare, display_of}
+use Rattle.ca_display.specs.Alarm.{alarm_by}
 use Rattle.ca_records.specs.declared.puts.Put.{Put}
 use Rattle.ca_records.specs.declared.puts.Stamp.{Stamp}
 use Rattle.ca_records.specs.Record.{RecordState}
@@ -34,13 +37,26 @@ abbrev pub with_record : List ℕ → (Record → Record) → List Record → Li
 with_record name f records =
     map (λ (r : Record). if bytes_eq r.state.name name then f r else r) records
 
--- the metadata of an applied write: no alarm, and the stamp
-abbrev pub written_meta : Stamp → Meta
-written_meta s = record { status = 0; severity = 0; seconds = s.seconds; nanos = s.nanos }
+-- the metadata of an applied write of this: its alarm by its display data, if any, and the stamp
+abbrev pub written_meta : Elements → Stamp → Meta
+written_meta held s =
+    let alarm = alarm_by (display_of held) held in
+    record { status = alarm.0; severity = alarm.1; seconds = s.seconds; nanos = s.nanos }
 
 -- the record with this value
 abbrev pub with_value : Elements → Meta → Record → Record
 with_value e meta r = record r { state = record r.state { value = e; meta = meta } }
+
+-- the record to which this was written under this stamp
+abbrev pub with_write : Elements → Stamp → Record → Record
+with_write e s r = with_value e (written_meta e s) r
+
+-- the record, and what its puts that wait will make of it, shown by these display data
+abbrev pub shown_by : DisplayData → Record → Record
+shown_by d r = record r {
+  state = record r.state { value = displayed d (bare r.state.value) };
+  waiting = map (λ (p : WaitingPut). record p { value = displayed d (bare p.value) }) r.waiting;
+}
 
 -- the record with this put, which waits after the others
 abbrev pub with_waiting : WaitingPut → Record → Record
@@ -51,7 +67,7 @@ with_waiting p r = record r { waiting = r.waiting ++ p ∷ [] }
 abbrev pub finished : Stamp → Record → List WaitingPut → Record
 finished s r [] = record r { busy = None; waiting = [] }
 finished s r (p ∷ ps) =
-    record (with_value p.value (written_meta s) r) { busy = Some p.put; waiting = ps }
+    record (with_write p.value s r) { busy = Some p.put; waiting = ps }
 
 -- the record without the waiting puts that the test names
 abbrev pub without_puts : (Put → Bool) → Record → Record

@@ -6,6 +6,7 @@ use Rattle.std.specs.Prelude.{slice_get}
 use Rattle.std.specs.declared.alloc.AllocError.{AllocError}
 use Rattle.ca_arena.specs.declared.handle.Handle.{Handle}
 use Rattle.ca_dbr.specs.declared.value.Meta.{Meta}
+use Rattle.ca_dbr.specs.Display.{DisplayData}
 use Rattle.ca_dbr.specs.Elements.{Elements, base_of}
 use Rattle.ca_dbr.specs.Held.{kind_of}
 use Rattle.ca_dbr.specs.Reading.{CanReadOver, ReadsElements, least_size}
@@ -23,7 +24,8 @@ use Rattle.ca_records.specs.Given.{given_as}
 use Rattle.ca_records.specs.declared.puts.Put.{Put}
 use Rattle.ca_records.specs.declared.puts.Stamp.{Stamp}
 use Rattle.ca_records.specs.Puts.{Record, WaitingPut, finished, new_record, record_named, removed}
-use Rattle.ca_records.specs.Puts.{with_value, with_waiting, withdrawn, without_puts, written_meta}
+use Rattle.ca_records.specs.Puts.{shown_by, with_value, with_waiting, with_write, withdrawn}
+use Rattle.ca_records.specs.Puts.{without_puts}
 use Rattle.ca_records.specs.Record.{RecordState}
 use Rattle.ca_records.specs.Store.{Becomes, Enters, Finds, HasAt, Store, TakesAt, records_of}
 use Rattle.ca_records.specs.Store.{with_place, with_slot}
@@ -42,10 +44,10 @@ write_fault r put e = late_put_fault r.state (must_wait r put) (length r.waiting
 abbrev pub Takes : Stamp → Record → Option Put → Elements → Begun → Record → Type 0
 Takes s r put v (Applied true) next =
     (p : Put) × (put ≡ Some p) × (r.busy ≡ None) × (r.state.slow ≡ true)
-    × (next ≡ record (with_value v (written_meta s) r) { busy = Some p })
+    × (next ≡ record (with_write v s r) { busy = Some p })
 Takes s r put v (Applied false) next =
     (must_wait r put ≡ false) × ((is_some put && r.state.slow) ≡ false)
-    × (next ≡ with_value v (written_meta s) r)
+    × (next ≡ with_write v s r)
 Takes s r put v Waiting next =
     (p : Put) × (put ≡ Some p) × (must_wait r put ≡ true)
     × (next ≡ with_waiting (record { put = p; value = v }) r)
@@ -97,7 +99,7 @@ pub record CanWriteOne (s : Store) (place : ℕ) (is_put : Bool) (number : ℕ)
   pub quick : (is_put && r.state.slow) ≡ false
   pub over : CanReadOver number bytes r.state.value
 
--- The same of a put with notification that makes its record busy.
+-- One element was read over the value by a put with notification, which makes its record busy.
 pub record PutsOne (old : Store) (place : ℕ) (put : Put) (number : ℕ) (bytes : List ℕ)
     (new : Store) : Type 0 where
   pub e : Elements
@@ -182,6 +184,16 @@ Posts old name e meta (Ok place) new =
     × ((r : Record) × Turns old name place r (with_value e meta r) new)
 Posts old name e meta (Err fault) new = PostFault (records_of old) name e fault × (new ≡ old)
 
+-- ---- display data
+
+-- the record of this name is shown by these display data, and so is what waits for it
+abbrev pub SetsDisplay : Store → List ℕ → DisplayData → Result ℕ Refusal → Store → Type 0
+SetsDisplay old name d (Ok place) new =
+    (r : Record) × Turns old name place r (shown_by d r) new
+SetsDisplay old name d (Err refusal.UnknownRecord) new =
+    (record_named (records_of old) name ≡ None) × (new ≡ old)
+SetsDisplay old name d (Err e) new = ⊥
+
 -- ---- records come and go
 
 -- The record comes to a place; or it is refused, last as OutOfMemory.
@@ -190,7 +202,7 @@ Adds old s (Ok place) new = MayAdd (records_of old) s × Enters old place (new_r
 Adds old s (Err refusal.OutOfMemory) new = MayAdd (records_of old) s × (new ≡ old)
 Adds old s (Err e) new = AddFault (records_of old) s e × (new ≡ old)
 
--- The same, of a record whose name is new: it comes to a new place, after all others.
+-- The record, whose name is new, comes to a new place, after all others; or it is refused.
 abbrev pub Defines : Store → RecordState → Result ℕ Refusal → Store → Type 0
 Defines old s (Ok place) new =
     MayAdd (records_of old) s × (place ≡ length old.slots) × (new ≡ with_place (new_record s) old)

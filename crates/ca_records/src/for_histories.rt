@@ -2,7 +2,6 @@
 //! server needs these calls.
 ghost use Rattle.std.specs.Prelude.{◌≡◌, ◌<◌, length};
 ghost use Rattle.ca_text.specs.Place.{At};
-ghost use Rattle.ca_records.specs.Layout.{waiting_put};
 ghost use Rattle.ca_records.specs.ForHistories.{WaitsAt};
 
 use crate::puts::Put;

@@ -1,12 +1,13 @@
 //! Converts the elements of a write to the record's type. A write that does not convert, or that
 //! finds no place to wait, gets its ECA status here.
 ghost use Rattle.std.specs.Prelude.{◌≡◌, ◌≢◌, IfErr, IfOk, Ok, OnErr};
-ghost use Rattle.ca_dbr.specs.declared.data_type.BaseType.{BaseType};
-ghost use Rattle.ca_dbr.specs.Conversion.{Fails, converted};
+ghost use Rattle.ca_dbr.specs.Conversion.{Fails};
 ghost use Rattle.ca_dbr.specs.Elements.{Elements, base_of, elements};
-ghost use Rattle.ca_records.specs.Judging.{Judges};
+ghost use Rattle.ca_dbr.specs.Held.{Kind, kind_of};
+ghost use Rattle.ca_records.specs.Judging.{Judges, converted_as};
 
-use ca_dbr::{BaseType, Value, convert_to};
+use ca_dbr::Value;
+use ca_display::Held;
 use ca_text::{Refusal, Status};
 use std::alloc::Global;
 
@@ -21,12 +22,12 @@ pub(crate) enum Judged {
     NoMemory,
 }
 
-// Judges elements for a record of this type, on which the write may find no place to wait.
+// Judges elements for a record that holds this, on which the write may find no place to wait.
 #[inline(always)]
-pub(crate) fn judge(alloc: Global, value: Value, base: BaseType, is_crowded: bool) -> Judged
-    ensures { Judges (elements value) base is_crowded result }
+pub(crate) fn judge(alloc: Global, value: Value, held: &Held, is_crowded: bool) -> Judged
+    ensures { Judges (elements value) (kind_of held.now) is_crowded result }
 {
-    match in_type(alloc, value, base) {
+    match in_type(alloc, value, held) {
         Ok(value) => {
             if is_crowded {
                 return Judged::Refused(Status::PUTFAIL);
@@ -39,8 +40,8 @@ pub(crate) fn judge(alloc: Global, value: Value, base: BaseType, is_crowded: boo
 
 // What a conversion that gave no elements comes to.
 fn refused(refusal: Refusal, is_crowded: bool) -> Judged
-    ensures { (e : Elements) (b : BaseType) → base_of e ≢ b → Fails (converted e b) refusal
-        → Judges e b is_crowded result }
+    ensures { (e : Elements) (k : Kind) → base_of e ≢ k.base → Fails (converted_as e k) refusal
+        → Judges e k is_crowded result }
 {
     match refusal {
         Refusal::NoConvert => Judged::Refused(Status::NOCONVERT),
@@ -54,26 +55,28 @@ fn refused(refusal: Refusal, is_crowded: bool) -> Judged
     }
 }
 
-// The elements in another type. Those of this type are handed on as they are.
+// The elements in the type of what a record holds. Those of this type are handed on as they are.
 #[inline(always)]
-fn in_type(alloc: Global, value: Value, base: BaseType) -> Result<Value, Refusal>
-    ensures ok { IfOk result (λ v. converted (elements value) base ≡ Ok (elements v)) }
-    ensures err { IfErr result (Fails (converted (elements value) base)) }
-    ensures other { OnErr result (base_of (elements value) ≢ base) }
+fn in_type(alloc: Global, value: Value, held: &Held) -> Result<Value, Refusal>
+    ensures ok { IfOk result (λ v. converted_as (elements value) (kind_of held.now)
+        ≡ Ok (elements v)) }
+    ensures err { IfErr result (Fails (converted_as (elements value) (kind_of held.now))) }
+    ensures other { OnErr result (base_of (elements value) ≢ base_of held.now) }
 {
-    if value.base_type() == base {
+    if value.base_type() == held.value().base_type() {
         return Ok(value);
     }
-    changed(alloc, value, base)
+    changed(alloc, value, held)
 }
 
 // The elements in another type than theirs. It takes the value and is out of line, so that a value
 // of this type is lent to nobody, and stays in registers.
 #[inline(never)]
-fn changed(alloc: Global, value: Value, base: BaseType) -> Result<Value, Refusal>
-    requires { base_of (elements value) ≢ base }
-    ensures ok { IfOk result (λ v. converted (elements value) base ≡ Ok (elements v)) }
-    ensures err { IfErr result (Fails (converted (elements value) base)) }
+fn changed(alloc: Global, value: Value, held: &Held) -> Result<Value, Refusal>
+    requires { base_of (elements value) ≢ base_of held.now }
+    ensures ok { IfOk result (λ v. converted_as (elements value) (kind_of held.now)
+        ≡ Ok (elements v)) }
+    ensures err { IfErr result (Fails (converted_as (elements value) (kind_of held.now))) }
 {
-    convert_to(alloc, &value, base)
+    held.convert(alloc, &value)
 }

@@ -5,7 +5,7 @@ ghost use Rattle.ca_records.specs.Judging.{fewer_waiting, more_waiting};
 ghost use Rattle.ca_records.specs.Puts.{written_meta};
 
 use ca_arena::Handle;
-use ca_dbr::Meta;
+use ca_dbr::{Meta, Value};
 use ca_display::Held;
 use ca_text::Status;
 use std::alloc::AllocError;
@@ -30,13 +30,15 @@ pub struct Stamp {
 }
 
 impl Stamp {
-    // What goes with a value that was written: no alarm, and the stamp.
-    pub(crate) fn meta(self) -> Meta
-        ensures { result ≡ written_meta self }
+    // What goes with what was written: its alarm, and the stamp.
+    #[inline(always)]
+    pub(crate) fn meta(self, held: &Held) -> Meta
+        ensures { result ≡ written_meta held.now self }
     {
+        let (status, severity) = held.alarm();
         Meta {
-            status: 0,
-            severity: 0,
+            status,
+            severity,
             seconds: self.seconds,
             nanos: self.nanos,
         }
@@ -65,11 +67,11 @@ pub struct Finished {
     pub applied: Option<Put>,
 }
 
-// A put that waits, and what its record is to hold then.
+// A put that waits, and the value that its record is to have then.
 #[derive(Debug, Drop)]
 pub(crate) struct QueuedPut {
     pub(crate) put: Put,
-    pub(crate) held: Held,
+    pub(crate) value: Value,
 }
 
 // How many more puts wait after a write.

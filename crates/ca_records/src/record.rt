@@ -4,16 +4,23 @@ ghost use Rattle.std.specs.Prelude.{◌≡◌, IfErr, IfOk, MatchResult, OnOk};
 ghost use Rattle.ca_text.specs.Limits.{record_name_limit};
 ghost use Rattle.ca_text.specs.Name.{IsName};
 ghost use Rattle.ca_text.specs.declared.refusal.Refusal.TheVariants.{BadCount, NameLength};
-ghost use Rattle.ca_dbr.specs.Elements.{elements};
+ghost use Rattle.std.specs.Arc.{arc_value};
+ghost use Rattle.ca_dbr.specs.Display.{IsData};
+ghost use Rattle.ca_dbr.specs.Elements.{displayed, elements};
+ghost use Rattle.ca_dbr.specs.Held.{bare};
+ghost use Rattle.ca_display.specs.Data.{data_of};
 ghost use Rattle.ca_records.specs.Layout.{IsFit, MayNotHave};
 ghost use Rattle.ca_records.specs.Over.{TakesOver, in_place_of};
+ghost use Rattle.ca_records.specs.Puts.{written_meta};
 ghost use Rattle.ca_records.specs.Record.{HoldsValue, IsRecord, IsUnfit};
 
+use crate::puts::Stamp;
 use ca_dbr::{Meta, Value};
-use ca_display::Held;
+use ca_display::{Display, Held};
 use ca_text::{ELEMENT_LIMIT, RecordName, Refusal};
 use std::alloc::{AllocError, Global};
 use std::marker::Model;
+use std::sync::Arc;
 
 /// A record: a name, the greatest element count, whether a put takes it time, and what it holds: a
 /// value with its metadata, and display data if it has some.
@@ -88,14 +95,15 @@ impl Record {
         Ok(Record::new(name, self.count, self.slow, held, self.meta))
     }
 
-    // Sets what it holds, and what goes with the value.
-    pub(crate) fn set_held(&mut self, held: Held, meta: Meta)
-        requires { HoldsValue self.old.count held }
-        ensures { self.new ≡ record self.old { value = held; meta = meta } }
+    // Sets the display data that its value is shown by.
+    pub(crate) fn set_display(&mut self, display: Arc<Display>)
+        ensures shown { self.new ≡ record self.old {
+          value = displayed (data_of (arc_value display)) (bare self.old.value);
+        } }
+        ensures data { IsData (data_of (arc_value display)) }
     {
-        held.know();
-        self.meta = meta;
-        self.held = held;
+        display.know();
+        self.held.set_display(display);
     }
 
     // Sets the value and what goes with it. Hands out the value before. Display data stay.
@@ -109,16 +117,32 @@ impl Record {
         self.held.set(value)
     }
 
-    // Reads one element of its type over its value, and sets what goes with it. False, and nothing
-    // changes, if the value does not take it.
+    // Writes the value under this stamp. Hands out the value before. Display data stay.
     #[inline(always)]
-    pub(crate) fn read_over(&mut self, number: u16, bytes: &[u8], meta: Meta) -> bool
-        ensures { TakesOver number bytes.now meta self.old result self.new }
+    pub(crate) fn write(&mut self, value: Value, stamp: Stamp) -> Value
+        requires { HoldsValue self.old.count (in_place_of self.old.value (elements value)) }
+        ensures { self.new ≡ record self.old {
+          value = in_place_of self.old.value (elements value);
+          meta = written_meta (in_place_of self.old.value (elements value)) stamp;
+        } }
+    {
+        Value::know(&value);
+        let before = self.held.set(value);
+        self.meta = stamp.meta(&self.held);
+        before
+    }
+
+    // Writes one element of its type, as these bytes have it, over its value under this stamp.
+    // False, and nothing changes, if the value does not take it.
+    #[inline(always)]
+    pub(crate) fn read_over(&mut self, number: u16, bytes: &[u8], stamp: Stamp) -> bool
+        ensures { TakesOver number bytes.now (λ held. written_meta held stamp) self.old result
+            self.new }
     {
         if !self.held.read_over(number, bytes) {
             return false;
         }
-        self.meta = meta;
+        self.meta = stamp.meta(&self.held);
         true
     }
 

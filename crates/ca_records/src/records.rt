@@ -4,17 +4,20 @@ ghost use Rattle.std.specs.Prelude.{◌≡◌, ◌<◌, ◌↔◌, ◌++◌, ◌
 ghost use Rattle.std.specs.Prelude.{MatchOption, MatchResult, OnErr, OnOk, ◌≢◌, length};
 ghost use Rattle.ca_text.specs.Place.{At};
 ghost use Rattle.ca_text.specs.declared.refusal.Refusal.TheVariants.{UnknownRecord};
-ghost use Rattle.ca_dbr.specs.Elements.{elements};
+ghost use Rattle.std.specs.Arc.{arc_value};
+ghost use Rattle.ca_dbr.specs.Elements.{displayed, elements};
+ghost use Rattle.ca_display.specs.Data.{data_of};
 ghost use Rattle.ca_records.specs.Record.{unset};
 ghost use Rattle.ca_records.specs.Records.{AreApart, Defines, Holds, IsServed, Names};
 
 use crate::record::{Record, check};
 use ca_dbr::{Meta, Value};
-use ca_display::Held;
+use ca_display::{Display, Held};
 use ca_text::Refusal;
 use std::alloc::{AllocError, Global};
 use std::collections::BTreeMap;
 use std::marker::Model;
+use std::sync::Arc;
 
 /// The records that a server serves, each under a name of its own, in the order in
 /// which they were defined.
@@ -117,6 +120,33 @@ impl Records {
         }) result self.new }
     {
         self.add(name, count, slow, Held::of(value), Meta::ZERO)
+    }
+
+    /// Adds such a record that is shown by these display data.
+    pub fn define_displayed(
+        &mut self,
+        name: &[u8],
+        count: u32,
+        slow: bool,
+        value: Value,
+        display: Arc<Display>,
+    ) -> Result<(), Refusal>
+        requires { IsServed self.old name.now → ⊥ }
+        ensures { Defines self.old (record {
+          name = name.now;
+          count = count;
+          slow = slow;
+          value = displayed (data_of (arc_value display)) (elements value);
+          meta = unset;
+        }) result self.new }
+    {
+        self.add(
+            name,
+            count,
+            slow,
+            Held::displayed(value, display),
+            Meta::ZERO,
+        )
     }
 
     /// Adds a record after the others.

@@ -1,11 +1,14 @@
 //! One record as a server keeps it: its value, the put that makes it busy, and the puts that wait
 //! for its end. Begin at `begin`, which takes a write, and `finish`, which ends a put.
 ghost use Rattle.std.specs.Prelude.{◌≡◌, ◌+◌, ◌<◌, ◌≤◌, IfOk, OnErr, Ok, false, if◌then◌else◌};
-ghost use Rattle.std.specs.Prelude.{is_some, length, map, nat_lt, not, true};
+ghost use Rattle.std.specs.Prelude.{is_some, length, nat_lt, not, true};
+ghost use Rattle.std.specs.Arc.{arc_value};
 ghost use Rattle.ca_text.specs.Limits.{waiting_puts};
 ghost use Rattle.ca_dbr.specs.Elements.{count_of, elements};
-ghost use Rattle.ca_records.specs.Puts.{new_record, with_value, with_waiting, without_puts};
-ghost use Rattle.ca_records.specs.Layout.{IsFit, waiting_put};
+ghost use Rattle.ca_display.specs.Data.{data_of};
+ghost use Rattle.ca_records.specs.Puts.{new_record, shown_by, with_value, with_waiting};
+ghost use Rattle.ca_records.specs.Puts.{with_write, without_puts, written_meta};
+ghost use Rattle.ca_records.specs.Layout.{IsFit, waiting_on};
 ghost use Rattle.ca_records.specs.Writes.{BeginsOn, FinishesOn, Takes, is_of, must_wait};
 ghost use Rattle.ca_records.specs.Judging.{more_waiting};
 ghost use Rattle.ca_records.specs.Over.{PutsOver, WritesOver, in_place_of};
@@ -16,10 +19,12 @@ use crate::puts::{Begun, Put, QueuedPut, Stamp};
 use crate::record::Record;
 use ca_arena::Handle;
 use ca_dbr::{Meta, Value};
+use ca_display::Display;
 use ca_text::WAITING_PUTS;
 use std::alloc::{AllocError, Global};
 use std::collections::VecDeque;
 use std::marker::Model;
+use std::sync::Arc;
 
 /// A record that is served: with the put that makes it busy, and those that wait, in the
 /// order in which they came.
@@ -33,7 +38,6 @@ pub struct ServedRecord {
 }
 
 impl Model for ServedRecord {
-    ghost use Rattle.std.specs.Prelude.{map};
     ghost use Rattle.ca_records.specs.Puts as puts;
 
     ghost Value = { puts.Record };
@@ -43,12 +47,12 @@ impl Model for ServedRecord {
 
     ghost coded = { Prim.hlevel (codes, elements_code) };
 
-    ghost use Rattle.ca_records.specs.Layout.{AreFit, waiting_put};
+    ghost use Rattle.ca_records.specs.Layout.{AreFit, waiting_on};
 
     ghost view = { λ r.
-        record { state = r.record; busy = r.busy; waiting = map waiting_put r.waiting.items } };
+        record { state = r.record; busy = r.busy; waiting = waiting_on r.record r.waiting.items } };
 
-    ghost invariant = { λ r. AreFit r.record (map waiting_put r.waiting.items) };
+    ghost invariant = { λ r. AreFit r.record (waiting_on r.record r.waiting.items) };
 }
 
 impl ServedRecord {
@@ -94,7 +98,7 @@ impl ServedRecord {
 
     // The puts that wait, in order.
     pub(crate) fn waiting(&self) -> &VecDeque<QueuedPut>
-        ensures { map waiting_put result.now.items ≡ self.now.waiting }
+        ensures { waiting_on self.now.state result.now.items ≡ self.now.waiting }
     {
         &self.waiting
     }
@@ -115,12 +119,7 @@ impl ServedRecord {
     {
         let is_crowded = self.is_crowded(&put);
         let alloc = *self.waiting.allocator();
-        match judge(
-            alloc,
-            value,
-            self.record.held().value().base_type(),
-            is_crowded,
-        ) {
+        match judge(alloc, value, self.record.held(), is_crowded) {
             Judged::Refused(status) => Ok(Begun::Refused(status)),
             Judged::NoMemory => Err(AllocError),
             Judged::Fits(value) => {
@@ -146,7 +145,7 @@ impl ServedRecord {
         if is_put && (self.busy.is_some() || self.record.is_slow()) {
             return false;
         }
-        self.record.read_over(number, bytes, stamp.meta())
+        self.record.read_over(number, bytes, stamp)
     }
 
     // Writes one element over its value and makes the record busy with this put. False, and nothing
@@ -158,7 +157,7 @@ impl ServedRecord {
         if self.busy.is_some() || !self.record.is_slow() {
             return false;
         }
-        if !self.record.read_over(number, bytes, stamp.meta()) {
+        if !self.record.read_over(number, bytes, stamp) {
             return false;
         }
         self.busy = Some(put);
@@ -190,7 +189,7 @@ impl ServedRecord {
         ensures memory { OnErr result ((must_wait self.old put ≡ true) × (self.new ≡ self.old)) }
     {
         let Some(put) = put else {
-            self.apply(value, stamp.meta());
+            self.write(value, stamp);
             return Ok(Begun::Applied(false));
         };
         if self.busy.is_some() {
@@ -199,7 +198,7 @@ impl ServedRecord {
             }
             return self.wait(put, value);
         }
-        self.apply(value, stamp.meta());
+        self.write(value, stamp);
         if self.record.is_slow() {
             self.busy = Some(put);
             return Ok(Begun::Applied(true));
@@ -217,10 +216,19 @@ impl ServedRecord {
             self.old)) }
         ensures memory { OnErr result (self.new ≡ self.old) }
     {
-        let held = self.record.held().with_value(value)?;
         self.waiting.reserve(1)?;
-        self.waiting.push_back_reserved(QueuedPut { put, held });
+        self.waiting.push_back_reserved(QueuedPut { put, value });
         Ok(Begun::Waiting)
+    }
+
+    // Writes its value. In line, so that the value goes there in registers.
+    #[inline(always)]
+    fn write(&mut self, value: Value, stamp: Stamp)
+        requires { IsFit self.old.state (in_place_of self.old.state.value (elements value)) }
+        ensures { self.new
+            ≡ with_write (in_place_of self.old.state.value (elements value)) stamp self.old }
+    {
+        self.spare = Some(self.record.write(value, stamp));
     }
 
     // Sets its value, and what goes with it. In line, so that the value goes there in registers.
@@ -251,11 +259,18 @@ impl ServedRecord {
                 Some((ended, None))
             }
             Some(next) => {
-                self.record.set_held(next.held, stamp.meta());
+                self.write(next.value, stamp);
                 self.busy = Some(next.put);
                 Some((ended, Some(next.put)))
             }
         }
+    }
+
+    // It is shown by these display data from now on, and what waits for it will be.
+    pub(crate) fn set_display(&mut self, display: Arc<Display>)
+        ensures { self.new ≡ shown_by (data_of (arc_value display)) self.old }
+    {
+        self.record.set_display(display);
     }
 
     // Takes the waiting puts of a circuit out, or of one channel of it. Tells how many they were.

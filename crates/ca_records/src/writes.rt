@@ -1,18 +1,22 @@
 //! Writes to the served records by place or name: put or plain write, the fast path for one
 //! element, the end of a busy put, withdrawal, and posts. `served_record.rt` does the work.
 ghost use Rattle.std.specs.Prelude.{◌≡◌, false, true};
+ghost use Rattle.std.specs.Arc.{arc_value};
 ghost use Rattle.ca_dbr.specs.Elements.{elements};
 ghost use Rattle.ca_dbr.specs.Held.{displayed_by};
+ghost use Rattle.ca_display.specs.Data.{data_of};
 ghost use Rattle.ca_records.specs.Store.{IsThere, TakesAt, display_at, records_of};
 ghost use Rattle.ca_records.specs.Writes.{Begins, CanPutOne, CanWriteOne, Finishes, FinishesAt};
-ghost use Rattle.ca_records.specs.Writes.{Posts, PutsOne, Withdraws, WritesOne};
+ghost use Rattle.ca_records.specs.Writes.{Posts, PutsOne, SetsDisplay, Withdraws, WritesOne};
 
 use crate::puts::{Begun, Finished, Put, fewer_waiting, more_waiting};
 use crate::served_records::ServedRecords;
 use ca_arena::Handle;
 use ca_dbr::{Meta, Value};
+use ca_display::Display;
 use ca_text::Refusal;
 use std::alloc::AllocError;
+use std::sync::Arc;
 
 impl ServedRecords {
     /// Begins a write to the record at this place: a put with notification, or a plain
@@ -150,6 +154,20 @@ impl ServedRecords {
         };
         self.at(place).state().check_post(&value)?;
         self.slots[place].record_mut().apply(value, meta);
+        Ok(place)
+    }
+
+    /// Sets the display data that the record of this name is shown by, and so what waits for it.
+    /// Tells its place. Its value and what goes with it stay.
+    ///
+    /// Refused as UnknownRecord if no record has the name.
+    pub fn set_display(&mut self, name: &[u8], display: Arc<Display>) -> Result<usize, Refusal>
+        ensures { SetsDisplay self.old name.now (data_of (arc_value display)) result self.new }
+    {
+        let Some(place) = self.find(name) else {
+            return Err(Refusal::UnknownRecord);
+        };
+        self.slots[place].record_mut().set_display(display);
         Ok(place)
     }
 }

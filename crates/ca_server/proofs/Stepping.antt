@@ -47,11 +47,11 @@ after old mid new g c f = record {
 -- after what a message makes of the records
 recorded : (old : Server) (h : Handle) (e : ServerEnd) (m : Fields) (action : Action) (new : Server) → old.applied ≤ applied_limit → Distinct old.records → Records old h e m action new → Grows old.applied old.records new
 recorded old h e m (Applies name value false) new l d is =
-    let f = fewer-valued name value (written_meta old.stamp) old.records in
+    let f = fewer-valued name value (written_meta value old.stamp) old.records in
     subst (λ (y : Server). Grows old.applied old.records y) (sym is)
     (record { applied = raised old.applied applied_limit l; most = omega (arith, raised-one old.applied applied_limit, f.waits); names = f.names })
 recorded old h e m (Applies name value true) new l d is =
-    let f = fewer-changed name (λ (r : Record). record (with_value value (written_meta old.stamp) r) { busy = Some is.0 }) (λ r. refl) (λ r. omega arith) old.records in
+    let f = fewer-changed name (λ (r : Record). record (with_value value (written_meta value old.stamp) r) { busy = Some is.0 }) (λ r. refl) (λ r. omega arith) old.records in
     subst (λ (y : Server). Grows old.applied old.records y) (sym is.2)
     (record { applied = raised old.applied applied_limit l; most = omega (arith, raised-one old.applied applied_limit, f.waits); names = f.names })
 recorded old h e m (Waits name value) new l d is =

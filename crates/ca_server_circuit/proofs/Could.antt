@@ -336,7 +336,7 @@ module _ (port : ℕ) (s : Store) (h : Handle) (e : ServerEnd) (m : Fields) (sou
           due = inl (c, inr (v.0, v.1, refl, refl));
           acted = e;
           acts = λ y same. refl;
-          after = with_record c.channel.name (with_value v.0 (written_meta s.stamp)) (records_of s);
+          after = with_record c.channel.name (with_value v.0 (written_meta v.0 s.stamp)) (records_of s);
           records = refl;
         }
       ]
@@ -349,8 +349,8 @@ module _ (port : ℕ) (s : Store) (h : Handle) (e : ServerEnd) (m : Fields) (sou
   put-records seat i n v true slow =
       (with_record n (with_waiting (record { put = put_in h seat m; value = v })) (records_of s), (put_in h seat m, ((seat.channel, i.channel), i.held, refl), refl))
   put-records seat i n v false true =
-      (with_record n (λ (r : Record). record (with_value v (written_meta s.stamp) r) { busy = Some (put_in h seat m) }) (records_of s), (put_in h seat m, ((seat.channel, i.channel), i.held, refl), refl))
-  put-records seat i n v false false = (with_record n (with_value v (written_meta s.stamp)) (records_of s), refl)
+      (with_record n (λ (r : Record). record (with_value v (written_meta v s.stamp) r) { busy = Some (put_in h seat m) }) (records_of s), (put_in h seat m, ((seat.channel, i.channel), i.held, refl), refl))
+  put-records seat i n v false false = (with_record n (with_value v (written_meta v s.stamp)) (records_of s), refl)
 
   put : ((seat : Seat) × IsServed s e m.p1 seat) ⊎ ((cid : ℕ) × IsStray e m.p1 cid) → Part port s h e m command.WriteNotify
   put (inr x) = quiet command.WriteNotify (status_reply m bad_channel ∷ []) (inr (stray-due port s e m x.0 (λ c. status_reply m bad_channel) x.1))

@@ -10,6 +10,7 @@ pub mod Telling
 pub mod Created
 pub mod Dues
 pub mod Taken
+mod Ones
 pub mod Handled
 pub mod Cleared
 pub mod Subscribes

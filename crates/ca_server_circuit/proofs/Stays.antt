@@ -117,10 +117,10 @@ IsNew h e m action q w = ⊥
 pub recorded-keeps : (rs qs : List Record) (s : Stamp) (h : Handle) (e : ServerEnd) (m : Fields) (a : Action) → Recorded rs s h e m a qs → Keeps rs qs (Stays h a) (IsNew h e m a)
 recorded-keeps rs qs s h e m (Applies name value false) is =
     subst (λ (x : List Record). Keeps rs x (λ (w : WaitingPut). Unit {0}) (λ (q : Record) (w : WaitingPut). ⊥)) (sym is)
-    (record-keeps name (with_value value (written_meta s)) (λ (q : Record) (w : WaitingPut). ⊥) (λ r. refl) (λ r k w e at. inl ((k, at), tt)) rs)
+    (record-keeps name (with_value value (written_meta value s)) (λ (q : Record) (w : WaitingPut). ⊥) (λ r. refl) (λ r k w e at. inl ((k, at), tt)) rs)
 recorded-keeps rs qs s h e m (Applies name value true) is =
     subst (λ (x : List Record). Keeps rs x (λ (w : WaitingPut). Unit {0}) (λ (q : Record) (w : WaitingPut). ⊥)) (sym is.2)
-    (record-keeps name (λ (r : Record). record (with_value value (written_meta s) r) { busy = Some is.0 }) (λ (q : Record) (w : WaitingPut). ⊥) (λ r. refl) (λ r k w e at. inl ((k, at), tt)) rs)
+    (record-keeps name (λ (r : Record). record (with_value value (written_meta value s) r) { busy = Some is.0 }) (λ (q : Record) (w : WaitingPut). ⊥) (λ r. refl) (λ r k w e at. inl ((k, at), tt)) rs)
 recorded-keeps rs qs s h e m (Waits name value) is =
     subst (λ (x : List Record). Keeps rs x (λ (w : WaitingPut). Unit {0}) (IsNew h e m (Waits name value))) (sym is.2)
     (record-keeps name (with_waiting (record { put = is.0; value = value })) (IsNew h e m (Waits name value)) (λ r. refl) by rs)

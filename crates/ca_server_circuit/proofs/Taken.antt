@@ -78,10 +78,10 @@ module _ (port : ℕ) (s : Store) (e : ServerEnd) (m : Fields) (seat : Seat) (i 
   changed-records next t f b is = b.records f is ∙ ap (λ (name : List ℕ). with_record name f (records_of s)) i.named
 
 -- where a write was applied
-wrote : (s t : Store) (place : ℕ) (busies : Bool) (sid : ℕ) (r next : Record) (name : List ℕ) (v : Elements) → Becomes s place r next t → r.state.name ≡ name → next.state.value ≡ v → next.state.meta ≡ written_meta s.stamp
-    → (at : ℕ) × (x : Record) × (effect.Wrote place busies sid ≡ effect.Wrote at busies sid) × HasAt t at x × (x.state.name ≡ name) × (x.state.value ≡ v) × (x.state.meta ≡ written_meta t.stamp)
+wrote : (s t : Store) (place : ℕ) (busies : Bool) (sid : ℕ) (r next : Record) (name : List ℕ) (v : Elements) → Becomes s place r next t → r.state.name ≡ name → next.state.value ≡ v → next.state.meta ≡ written_meta v s.stamp
+    → (at : ℕ) × (x : Record) × (effect.Wrote place busies sid ≡ effect.Wrote at busies sid) × HasAt t at x × (x.state.name ≡ name) × (x.state.value ≡ v) × (x.state.meta ≡ written_meta v t.stamp)
 wrote s t place busies sid r next name v b named value meta =
-    (place, next, refl, b.there, b.name ∙ named, value, meta ∙ sym (ap (λ (x : Store). written_meta x.stamp) b.leaves))
+    (place, next, refl, b.there, b.name ∙ named, value, meta ∙ sym (ap (λ (x : Store). written_meta v x.stamp) b.leaves))
 
 -- ---- WRITE
 
@@ -137,7 +137,7 @@ write-applied port s t h e new m seat i bits false next right is taken becomes d
   due = inl (serves port s e m.p1 seat i, inr (taken.v, taken-as port s e m seat i bits None right (not-notify m is) (begun.Applied false) next taken, refl, refl));
   acted = e;
   acts = λ y same. refl;
-  records = changed-records port s e m seat i bits None right (not-notify m is) next t (with_value taken.v (written_meta s.stamp)) becomes (sym taken.takes.2);
+  records = changed-records port s e m seat i bits None right (not-notify m is) next t (with_value taken.v (written_meta taken.v s.stamp)) becomes (sym taken.takes.2);
   rules = ap (λ (x : Store). x.rules) becomes.leaves;
   stamp = ap (λ (x : Store). x.stamp) becomes.leaves;
   tells = wrote s t seat.place false m.p1 i.r next i.channel.name taken.v becomes i.named (ap (λ (x : Record). x.state.value) taken.takes.2) (ap (λ (x : Record). x.state.meta) taken.takes.2);
@@ -211,7 +211,7 @@ put-applied port s t h e new m seat i bits true next right is taken becomes done
       );
       acted = e;
       acts = λ y same. refl;
-      records = (k.0, ((seat.channel, i.channel), i.held, sym p), changed-records port s e m seat i bits (Some (put_in h seat m)) right (is-notify m is) next t (λ (r : Record). record (with_value taken.v (written_meta s.stamp) r) { busy = Some k.0 }) becomes (sym k.4));
+      records = (k.0, ((seat.channel, i.channel), i.held, sym p), changed-records port s e m seat i bits (Some (put_in h seat m)) right (is-notify m is) next t (λ (r : Record). record (with_value taken.v (written_meta taken.v s.stamp) r) { busy = Some k.0 }) becomes (sym k.4));
       rules = ap (λ (x : Store). x.rules) becomes.leaves;
       stamp = ap (λ (x : Store). x.stamp) becomes.leaves;
       tells = wrote s t seat.place true m.p1 i.r next i.channel.name taken.v becomes i.named (ap (λ (x : Record). x.state.value) k.4) (ap (λ (x : Record). x.state.meta) k.4);
@@ -235,7 +235,7 @@ put-applied port s t h e new m seat i bits false next right is taken becomes don
       );
       acted = e;
       acts = λ y same. refl;
-      records = changed-records port s e m seat i bits (Some (put_in h seat m)) right (is-notify m is) next t (with_value taken.v (written_meta s.stamp)) becomes (sym k.2);
+      records = changed-records port s e m seat i bits (Some (put_in h seat m)) right (is-notify m is) next t (with_value taken.v (written_meta taken.v s.stamp)) becomes (sym k.2);
       rules = ap (λ (x : Store). x.rules) becomes.leaves;
       stamp = ap (λ (x : Store). x.stamp) becomes.leaves;
       tells = wrote s t seat.place false m.p1 i.r next i.channel.name taken.v becomes i.named (ap (λ (x : Record). x.state.value) k.2) (ap (λ (x : Record). x.state.meta) k.2);

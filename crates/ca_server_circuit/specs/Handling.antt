@@ -7,7 +7,7 @@ use Rattle.ca_ids.specs.Wire.{wire_of}
 use Rattle.ca_link.specs.Link.{with_sent}
 use Rattle.ca_records.specs.declared.puts.Put.{Put}
 use Rattle.ca_records.specs.declared.puts.Stamp.{Stamp}
-use Rattle.ca_records.specs.Puts.{Record, record_named, with_record, with_value, with_waiting}
+use Rattle.ca_records.specs.Puts.{Record, record_named, with_record, with_waiting, with_write}
 use Rattle.ca_records.specs.Puts.{withdrawn, written_meta}
 use Rattle.ca_records.specs.Store.{HasAt, Store, records_of}
 use Rattle.ca_text.specs.Command.{command_number}
@@ -62,12 +62,12 @@ AllStay old new = (h : Handle) (c : OpenChannel) → under old h ≡ Some c → 
 abbrev pub Recorded : List Record → Stamp → Handle → ServerEnd → Fields → Action → List Record
     → Type 0
 Recorded rs s h e m (Applies name value false) new =
-    new ≡ with_record name (with_value value (written_meta s)) rs
+    new ≡ with_record name (with_write value s) rs
 Recorded rs s h e m (Applies name value true) new =
     (p : Put) × IsPut h e m p
     × (new
     ≡ with_record name
-    (λ (r : Record). record (with_value value (written_meta s) r) { busy = Some p }) rs)
+    (λ (r : Record). record (with_write value s r) { busy = Some p }) rs)
 Recorded rs s h e m (Waits name value) new =
     (p : Put) × IsPut h e m p
     × (new ≡ with_record name (with_waiting (record { put = p; value = value })) rs)
@@ -103,13 +103,13 @@ effect_of (effect.Began place sid sub) = told.Subscribed sid sub
 effect_of (effect.Opened place sid) = told.Created sid
 
 -- What an action leaves the server to do, by the places of records: a write that was applied is to
--- reach the subscriptions of its record, which has its value and the stamp now; and a subscription
--- began, or a channel was created. Any other leaves nothing, and is told.
+-- reach the subscriptions of its record, which has its value, its alarm and the stamp now; and a
+-- subscription began, or a channel was created. Any other leaves nothing, and is told.
 abbrev pub Tells : Fields → Action → FollowUp → Store → Type 0
 Tells m (Applies name value busies) did t =
     (place : ℕ) × (r : Record) × (did ≡ effect.Wrote place busies m.p1) × HasAt t place r
     × (r.state.name ≡ name) × (r.state.value ≡ value)
-    × (r.state.meta ≡ written_meta t.stamp)
+    × (r.state.meta ≡ written_meta value t.stamp)
 Tells m (Adds x) did t =
     (place : ℕ) × (r : Record) × (did ≡ effect.Began place x.wanted.sid x.wanted.id)
     × HasAt t place r × (r.state.name ≡ x.name)

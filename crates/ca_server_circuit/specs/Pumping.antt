@@ -45,7 +45,7 @@ PumpsOver old (Err e) new out =
     (us : List Update) × (after : ServerEnd) × FoldsTo Leaves old us after × (Rests after → ⊥)
     × (out ≡ after.link.output) × (new.link.output ≡ []) × (new.channels ≡ old.channels)
 
--- The same on a circuit: an end without memory for the next has ended.
+-- Updates leave the queues of a circuit's end; one without memory for the next has ended.
 abbrev pub PumpsAt : Handle → ServerCircuit → Store → ServerCircuit → Store → Type 0
 PumpsAt h (server.Open e) s new t =
     (us : List Update) × (after : ServerEnd) × FoldsTo Leaves e us after

@@ -348,7 +348,7 @@ module _ (port now n : ℕ) (b : Clock) (s u : Store) (t : Circuits) (h : Handle
       let v : Stored = stored_now mid value in
       let name_is : r.state.name ≡ name = ap (λ (q : Record). q.state.name) (sym same) ∙ told.4 in
       let value_is : r.state.value ≡ value = ap (λ (q : Record). q.state.value) (sym same) ∙ told.5 in
-      let meta_is : r.state.meta ≡ written_meta u.stamp = ap (λ (q : Record). q.state.meta) (sym same) ∙ told.6 in
+      let meta_is : r.state.meta ≡ written_meta value u.stamp = ap (λ (q : Record). q.state.meta) (sym same) ∙ told.6 in
       let v_is : (record { value = r.state.value; meta = r.state.meta }) ≡ v = (λ i. record { value = value_is i; meta = meta_is i }) in
       let all : ReachesAll name write_mask v from.2.0 mid_table u last x =
       subst (λ (q : List ℕ × Stored). ReachesAll q.0 write_mask q.1 from.2.0 mid_table u last x) (λ i. (name_is i, v_is i)) from.2.1 in

@@ -1,3 +1,4 @@
+mod Shown
 pub mod Sounds
 pub mod Moves
 pub mod Onward

@@ -62,7 +62,7 @@ or-none false b is = refl
 -- what it makes of a circuit
 abbrev next_change : List ℕ → List WaitingPut → Stamp → (Handle → Bool) → Handle → ServerCircuit → ServerCircuit
 next_change name [] p gone = lacking gone
-next_change name (w ∷ ws) p gone = reached name write_mask (record { value = w.value; meta = written_meta p }) gone
+next_change name (w ∷ ws) p gone = reached name write_mask (record { value = w.value; meta = written_meta w.value p }) gone
 
 -- The next put has reached all subscriptions on its record, or none waits.
 pub record Nexts (name : List ℕ) (ws : List WaitingPut) (p : Stamp) (gone : Handle → Bool) (t : Circuits) (s : Store) (after : Circuits) (u : Store) : Type 0 where
@@ -95,9 +95,9 @@ nexts-of name (w ∷ ws) p f r next t s after u applied named at is did =
     let from = subst (λ (q : FollowUp). Follows q f.ended.circuit t s after u) (ap (λ (o : Option Put). after_applied f.place o) applied) did in
     let state : from.0.state ≡ (finished p r (w ∷ ws)).state = ap (λ (x : Record). x.state) (there-is s f.place from.0 next from.1 at) ∙ is in
     let gone = from.2.0 in
-    let all : ReachesAll r.state.name write_mask (record { value = w.value; meta = written_meta p }) gone t s after u =
+    let all : ReachesAll r.state.name write_mask (record { value = w.value; meta = written_meta w.value p }) gone t s after u =
     subst (λ (x : RecordState). ReachesAll x.name write_mask (record { value = x.value; meta = x.meta }) gone t s after u) state from.2.1 in
-    let mine : ReachesAll name write_mask (record { value = w.value; meta = written_meta p }) gone t s after u = subst (λ (x : List ℕ). ReachesAll x write_mask (record { value = w.value; meta = written_meta p }) gone t s after u) named all in (
+    let mine : ReachesAll name write_mask (record { value = w.value; meta = written_meta w.value p }) gone t s after u = subst (λ (x : List ℕ). ReachesAll x write_mask (record { value = w.value; meta = written_meta w.value p }) gone t s after u) named all in (
       gone,
       record {
         may = λ h e. (let c = mine.may h e in (c.0, c.1, cons-not w ws, c.2));
@@ -199,12 +199,12 @@ module _ (port now n : ℕ) (b : Clock) where
       others : (ws : List WaitingPut) (g : Handle) (x : ServerCircuit) → same_handle g h ≡ false → next_change name ws s.stamp gone g x ≡ next_change name ws s.stamp (λ (k : Handle). same_handle k h || gone k) g x
       others [] g x miss = lacking-ext g x (λ (k : Handle). same_handle k h || gone k) (sym (or-none (same_handle g h) (gone g) miss))
       others (w ∷ ws) g x miss =
-          reached-ext (record { value = w.value; meta = written_meta s.stamp }) g x (λ (k : Handle). same_handle k h || gone k) (sym (or-none (same_handle g h) (gone g) miss))
+          reached-ext (record { value = w.value; meta = written_meta w.value s.stamp }) g x (λ (k : Handle). same_handle k h || gone k) (sym (or-none (same_handle g h) (gone g) miss))
 
       own : (ws : List WaitingPut) (to : Handle → Bool) → to h ≡ true → next_change name ws s.stamp gone h (Ended why.OutOfMemory e.link.output) ≡ next_change name ws s.stamp to h (Open e)
       own [] to is = sym (ap (λ (b : Bool). cond b (Ended why.OutOfMemory e.link.output) (Open e)) is)
       own (w ∷ ws) to is =
-          let v : Stored = record { value = w.value; meta = written_meta s.stamp } in
+          let v : Stored = record { value = w.value; meta = written_meta w.value s.stamp } in
           sym (ap (λ (b : Bool). cond b (Ended why.OutOfMemory e.link.output) (Open (with_post name write_mask v e))) is)
 
       whole : (ws : List WaitingPut) → under t h ≡ Some (Open e) → with_each (next_change name ws s.stamp gone) (with_changed (λ (x : ServerCircuit). Ended why.OutOfMemory e.link.output) h t) ≡ with_each (next_change name ws s.stamp (λ (k : Handle). same_handle k h || gone k)) t

@@ -179,14 +179,14 @@ wrote-noted name u x which place busies sid noted busy is places was at named n 
 
 -- what a message made of the records, and what followed
 recorded-busy : (rs : List Record) (stamp : Stamp) (h : Handle) (e : ServerEnd) (m : Fields) (a : Action) (did : FollowUp) (u x : Store) (t last : Circuits) (noted : Option (List ℕ)) → Recorded rs stamp h e m a (records_of u) → Tells m a did u → Follows did h t u last x → NotesAt did x noted → BusyBut rs (records_of u) noted
-recorded-busy rs stamp h e m (Applies name value false) did u x t last noted is told f n = busy-with name (with_value value (written_meta stamp)) rs (records_of u) noted (λ q. refl) (λ q. refl) is
+recorded-busy rs stamp h e m (Applies name value false) did u x t last noted is told f n = busy-with name (with_value value (written_meta value stamp)) rs (records_of u) noted (λ q. refl) (λ q. refl) is
 recorded-busy rs stamp h e m (Applies name value true) did u x t last noted (p, put, is) told f n =
-    let change : Record → Record = λ (r : Record). record (with_value value (written_meta stamp) r) { busy = Some p } in
+    let change : Record → Record = λ (r : Record). record (with_value value (written_meta value stamp) r) { busy = Some p } in
     let from = subst (λ (d : FollowUp). Follows d h t u last x) told.2 f in
     let at = subst (λ (d : FollowUp). NotesAt d x noted) told.2 n in
     let named : noted ≡ Some name =
-    wrote-noted name u x (λ (q : Put). from.2.0 q.circuit) told.0 true m.p1 noted (λ r i own. made-busy name (λ (r : Record). record (with_value value (written_meta stamp) r) { busy = Some p }) rs (λ q. refl) p (λ q. refl) r (subst (λ (z : List Record). In z r) is i) own) from.2.1.records from.2.1.places told.1 told.3 told.4 at in
-    subst (λ (z : List Record). BusyBut rs z noted) (sym is) (busy-put name (λ (r : Record). record (with_value value (written_meta stamp) r) { busy = Some p }) rs (λ q. refl) p (λ q. refl) noted named)
+    wrote-noted name u x (λ (q : Put). from.2.0 q.circuit) told.0 true m.p1 noted (λ r i own. made-busy name (λ (r : Record). record (with_value value (written_meta value stamp) r) { busy = Some p }) rs (λ q. refl) p (λ q. refl) r (subst (λ (z : List Record). In z r) is i) own) from.2.1.records from.2.1.places told.1 told.3 told.4 at in
+    subst (λ (z : List Record). BusyBut rs z noted) (sym is) (busy-put name (λ (r : Record). record (with_value value (written_meta value stamp) r) { busy = Some p }) rs (λ q. refl) p (λ q. refl) noted named)
 recorded-busy rs stamp h e m (Waits name value) did u x t last noted (p, put, is) told f n =
     busy-with name (with_waiting (record { put = p; value = value })) rs (records_of u) noted (λ q. refl) (λ q. refl) is
 recorded-busy rs stamp h e m (Clears sid) did u x t last noted is told f n = busy-withdrawn _ rs (records_of u) noted is

@@ -6,7 +6,8 @@ ghost use Rattle.ca_arena.specs.declared.handle.Handle.{Handle};
 ghost use Rattle.ca_dbr.specs.Elements.{elements};
 ghost use Rattle.ca_dbr.specs.Held.{displayed_by};
 ghost use Rattle.ca_ids.specs.Table.{under};
-ghost use Rattle.ca_model.specs.ServerCalls.{Posts};
+ghost use Rattle.ca_display.specs.Data.{data_of};
+ghost use Rattle.ca_model.specs.ServerCalls.{Posts, SetsDisplay};
 ghost use Rattle.ca_records.specs.Store.{IsThere, display_at, records_of};
 ghost use Rattle.ca_server_circuit.specs.Posting.{IsCopyAt};
 ghost use Rattle.ca_server_core.specs.Covering.{AreListed, Covers};
@@ -17,6 +18,7 @@ ghost use Rattle.ca_server_core.specs.Sound.{IsSound};
 use crate::server::ServerCore;
 use ca_arena::Handle;
 use ca_dbr::{Meta, Value};
+use ca_display::Display;
 use ca_ids::HeldTable;
 use ca_records::ServedRecords;
 use ca_server_circuit::Circuit;
@@ -24,6 +26,9 @@ use ca_server_subscriptions::{SHARED_COUNT, SharedUpdate};
 use ca_server_watchers::Watchers;
 use ca_text::Refusal;
 use std::sync::Arc;
+
+// A change of display data concerns subscriptions with this bit.
+const PROPERTY_MASK: u16 = 8;
 
 impl ServerCore {
     /// The record of this name has this value from now on, with its alarm and its time stamp;
@@ -46,6 +51,27 @@ impl ServerCore {
             &mut self.watchers,
             place,
             mask,
+        );
+        Ok(())
+    }
+
+    /// The record of this name is shown by these display data from now on, and so is what waits for
+    /// it. Its value, alarm and time stamp stay. They reach all subscriptions on the record whose
+    /// mask has the bit PROPERTY, on all circuits. A circuit's end without memory for an update has
+    /// ended.
+    ///
+    /// Refused as UnknownRecord if no record has the name. A refusal changes nothing.
+    pub fn set_display(&mut self, name: &[u8], display: Arc<Display>) -> Result<(), Refusal>
+        ensures { (gone : Handle → Bool)
+            × SetsDisplay self.old name.now (data_of (arc_value display)) gone result self.new }
+    {
+        let place = self.records.set_display(name, display)?;
+        post_to_all(
+            &mut self.circuits,
+            &mut self.records,
+            &mut self.watchers,
+            place,
+            PROPERTY_MASK,
         );
         Ok(())
     }

@@ -353,8 +353,32 @@ impl Served {
         self.answer(alloc, &read)
     }
 
+    /// The status that it answers a WRITE_NOTIFY of one element of this type.
+    fn put(&mut self, alloc: Global, number: u16, element: &[u8]) -> Result<u8, Fail> {
+        Ok(self.write(alloc, number, element)?[11])
+    }
+
+    /// What it answers a WRITE_NOTIFY of one element of this type.
+    fn write(&mut self, alloc: Global, number: u16, element: &[u8]) -> Result<Vec<u8>, Fail> {
+        let size = element.len().next_multiple_of(8);
+        let mut put = vec![in alloc; 0; 16 + size]?;
+        put[1] = 19;
+        put[3] = size as u8;
+        put[5] = number as u8;
+        put[7] = 1;
+        put[8..12].copy_from_slice(&self.sid);
+        put[15] = 9;
+        put[16..16 + element.len()].copy_from_slice(element);
+        self.answer(alloc, &put)
+    }
+
     /// What it answers an EVENT_ADD for one element in this type, under an id that is its number.
     fn subscribe(&mut self, alloc: Global, number: u16) -> Result<Vec<u8>, Fail> {
+        self.subscribe_to(alloc, number, 1)
+    }
+
+    /// What it answers an EVENT_ADD for what this mask selects.
+    fn subscribe_to(&mut self, alloc: Global, number: u16, mask: u8) -> Result<Vec<u8>, Fail> {
         let mut add = vec![in alloc; 0; 32]?;
         add[1] = 1;
         add[3] = 16;
@@ -362,7 +386,7 @@ impl Served {
         add[7] = 1;
         add[8..12].copy_from_slice(&self.sid);
         add[15] = number as u8;
-        add[29] = 1;
+        add[29] = mask;
         self.answer(alloc, &add)
     }
 }
@@ -394,7 +418,7 @@ fn is_shown(bytes: &[u8], command: u8, number: u16, id: u8, image: &[u8]) -> boo
         && bytes[16 + image.len()..].iter().all(|byte| *byte == 0)
 }
 
-// The same record at a server: what reads and updates of it show.
+// What a server's reads and updates show of that record.
 #[test]
 fn a_server_shows_each_type(rt: HostRuntime) -> Result<(), Fail> {
     let alloc = rt.alloc();
@@ -429,6 +453,106 @@ fn a_server_shows_each_type(rt: HostRuntime) -> Result<(), Fail> {
     // There is no type 35.
     let refused = served.read(alloc, 35)?;
     assert!(rt; refused.len() == 16 && refused[11] == 114);
+    Ok(())
+}
+
+// Puts of each type to a record of a DOUBLE: a number goes to the nearest, and a text is the number
+// that it writes.
+#[test]
+fn a_server_converts_puts(rt: HostRuntime) -> Result<(), Fail> {
+    let alloc = rt.alloc();
+    let mut core = ServerCore::new(5_064, 0, &Records::new(alloc), Vec::new(alloc))?;
+    let display = Arc::new(alloc, gain(alloc)?)?;
+    core.add_displayed(
+        b"GAIN",
+        1,
+        false,
+        Value::Doubles(vec![in alloc; 0]?),
+        display,
+    )?;
+    let mut served = Served::new(alloc, core)?;
+    for (number, element, double) in [
+        (0, b"2.75".as_slice(), [0x40, 0x06, 0, 0, 0, 0, 0, 0]),
+        (1, &[0xff, 0xfe], [0xc0, 0, 0, 0, 0, 0, 0, 0]),
+        (2, &[0x40, 0x30, 0, 0], [0x40, 0x06, 0, 0, 0, 0, 0, 0]),
+        (3, &[0, 3], [0x40, 0x08, 0, 0, 0, 0, 0, 0]),
+        (4, &[5], [0x40, 0x14, 0, 0, 0, 0, 0, 0]),
+        (5, &[0, 0, 0, 2], [0x40, 0, 0, 0, 0, 0, 0, 0]),
+        (
+            6,
+            &[0x3f, 0xf0, 0, 0, 0, 0, 0, 0],
+            [0x3f, 0xf0, 0, 0, 0, 0, 0, 0],
+        ),
+    ] {
+        assert!(rt; served.put(alloc, number, element)? == 1);
+        assert!(rt; is_shown(&served.read(alloc, 6)?, 15, 6, 9, &double));
+    }
+    // A text that is no number is refused, and changes nothing.
+    assert!(rt; served.put(alloc, 0, b"volts")? == 160);
+    assert!(rt;
+        is_shown(
+            &served.read(alloc, 6)?,
+            15,
+            6,
+            9,
+            &[0x3f, 0xf0, 0, 0, 0, 0, 0, 0]
+        )
+    );
+    Ok(())
+}
+
+// Puts to a record of states: by a state's name, by its number as a text, and by a DOUBLE.
+#[test]
+fn a_server_converts_puts_of_states(rt: HostRuntime) -> Result<(), Fail> {
+    let alloc = rt.alloc();
+    let mut core = ServerCore::new(5_064, 0, &Records::new(alloc), Vec::new(alloc))?;
+    let display = Arc::new(alloc, state(alloc)?)?;
+    core.add_displayed(b"GAIN", 1, false, Value::Enums(vec![in alloc; 0]?), display)?;
+    let mut served = Served::new(alloc, core)?;
+    for (number, element, state) in [
+        (0, b"on".as_slice(), [0, 1]),
+        (0, b"2", [0, 2]),
+        (6, &[0, 0, 0, 0, 0, 0, 0, 0], [0, 0]),
+        (6, &[0x3f, 0xf8, 0, 0, 0, 0, 0, 0], [0, 1]),
+    ] {
+        assert!(rt; served.put(alloc, number, element)? == 1);
+        assert!(rt; is_shown(&served.read(alloc, 3)?, 15, 3, 9, &state));
+    }
+    assert!(rt; served.put(alloc, 0, b"off and on")? == 160);
+    Ok(())
+}
+
+// Display data that are set: who subscribed to properties is told, and alone; the value stays, and
+// a put that waits will be shown so too.
+#[test]
+fn a_server_sets_display_data(rt: HostRuntime) -> Result<(), Fail> {
+    let alloc = rt.alloc();
+    let mut core = ServerCore::new(5_064, 0, &Records::new(alloc), Vec::new(alloc))?;
+    let value = Value::Doubles(vec![in alloc; 0x4006_0000_0000_0000]?);
+    let plain = Arc::new(alloc, Display::new(alloc, b"", 0, Limits::ZERO)?)?;
+    core.add_displayed(b"GAIN", 1, true, value, plain)?;
+    let mut served = Served::new(alloc, core)?;
+    served.subscribe_to(alloc, 34, 8)?;
+    served.subscribe_to(alloc, 6, 7)?;
+    let display = Arc::new(alloc, gain(alloc)?)?;
+    served.core.set_display(b"GAIN", display)?;
+    let update = served.answer(alloc, &[])?;
+    assert!(rt; is_shown(&update, 1, 34, 34, &IMAGE_34));
+    // The first put is applied, which the other subscription is told, and the second waits.
+    let one = [0x3f, 0xf0, 0, 0, 0, 0, 0, 0];
+    assert!(rt; is_shown(&served.write(alloc, 6, &one)?, 1, 6, 6, &one));
+    assert!(rt; served.write(alloc, 6, &IMAGE_34[80..])?.is_empty());
+    let display = Arc::new(alloc, state(alloc)?)?;
+    served.core.set_display(b"GAIN", display)?;
+    let display = Arc::new(alloc, gain(alloc)?)?;
+    served.core.set_display(b"GAIN", display)?;
+    served.answer(alloc, &[])?;
+    served.core.finish(b"GAIN")?;
+    served.answer(alloc, &[])?;
+    assert!(rt; is_shown(&served.read(alloc, 34)?, 15, 34, 9, &IMAGE_34));
+    let display = Arc::new(alloc, gain(alloc)?)?;
+    let refused = served.core.set_display(b"NONE", display);
+    assert!(rt; refused == Err(Refusal::UnknownRecord));
     Ok(())
 }
 
@@ -716,18 +840,20 @@ fn alarms(rt: HostRuntime) -> Result<(), Fail> {
         (0x7ff8_0000_0000_0000, (0, 0)),
     ] {
         let value = Value::Doubles(vec![in alloc; bits]?);
-        assert!(rt; alarm_of(LIMITS, &value) == alarm);
+        assert!(rt; alarm_of(&LIMITS, &value) == alarm);
     }
     let value = Value::Longs(vec![in alloc; 91]?);
-    assert!(rt; alarm_of(LIMITS, &value) == (3, 2));
+    assert!(rt; alarm_of(&LIMITS, &value) == (3, 2));
+    // A record without limits, as an image of LONGs has it.
+    assert!(rt; alarm_of(&Limits::ZERO, &value) == (0, 0));
     let value = Value::Chars(vec![in alloc; 81]?);
-    assert!(rt; alarm_of(LIMITS, &value) == (4, 1));
+    assert!(rt; alarm_of(&LIMITS, &value) == (4, 1));
     let value = Value::Floats(vec![in alloc; 0xc180_0000]?);
-    assert!(rt; alarm_of(LIMITS, &value) == (5, 2));
+    assert!(rt; alarm_of(&LIMITS, &value) == (5, 2));
     let value = Value::Ints(vec![in alloc; 91, 91]?);
-    assert!(rt; alarm_of(LIMITS, &value) == (0, 0));
+    assert!(rt; alarm_of(&LIMITS, &value) == (0, 0));
     let value = Value::Enums(vec![in alloc; 91]?);
-    assert!(rt; alarm_of(LIMITS, &value) == (0, 0));
+    assert!(rt; alarm_of(&LIMITS, &value) == (0, 0));
     Ok(())
 }
 

@@ -13,7 +13,8 @@ use Rattle.ca_queue.specs.declared.entry.SubKey.{SubKey}
 use Rattle.ca_queue.proofs.Circuits.{set-twice}
 use Rattle.ca_records.specs.declared.puts.Put.{Put}
 use Rattle.ca_records.specs.Puts.{Record, WaitingPut, record_named, written_meta}
-use Rattle.ca_records.specs.Record.{unset}
+use Rattle.ca_dbr.specs.declared.value.Meta.{Meta}
+use Rattle.ca_world_servers.specs.Effects.{no_stamp}
 use Rattle.ca_text.specs.declared.refusal.Refusal.{Refusal}
 use Rattle.ca_text.specs.declared.refusal.Refusal.TheVariants.{NotBusy, OutOfMemory, UnknownRecord}
 use Rattle.ca_text.specs.Place.{At}
@@ -488,7 +489,7 @@ entries-next y r None (Some p) (Some v) header_only is = absurd cc
 entries-next y r (Some w) None value header_only is = refl
 entries-next y r (Some w) (Some p) None header_only is = absurd cc
 entries-next y r (Some w) (Some p) (Some v) header_only is =
-    (λ t. history.Applied p.circuit p.place r.number (record { value = sym (some_is w.value v is) t; meta = written_meta (sym header_only t) }) true ∷ [])
+    (λ t. history.Applied p.circuit p.place r.number (record { value = sym (some_is w.value v is) t; meta = written_meta (sym (some_is w.value v is) t) (sym header_only t) }) true ∷ [])
 
 pub some-mapped : {A B : Type 0} (f : A → B) (o : Option A) → is_some (option_map f o) ≡ is_some o
 some-mapped f None = refl
@@ -502,12 +503,13 @@ next-both logs life (p ∷ ps) None next = absurd cc
 next-both logs life (p ∷ ps) (Some v) next = refl
 
 -- a put that is applied next is told after the finish
-pub entries-two : (life number : ℕ) (p first : model.PutPlace) (value : Elements) (next : Option model.PutPlace) (some : Option Elements) (was mid now : List (List history.Entry)) → next ≡ Some first → some ≡ Some value
-    → mid ≡ grown life (finish_entry p ∷ []) was → now ≡ grown life (history.Applied first.circuit first.place number (record { value = value; meta = unset }) true ∷ []) mid
+pub entries-two : (life number : ℕ) (p first : model.PutPlace) (value : Elements) (meta : Meta) (next : Option model.PutPlace) (some : Option Elements) (was mid now : List (List history.Entry)) → meta ≡ written_meta value no_stamp → next ≡ Some first → some ≡ Some value
+    → mid ≡ grown life (finish_entry p ∷ []) was → now ≡ grown life (history.Applied first.circuit first.place number (record { value = value; meta = meta }) true ∷ []) mid
     → now ≡ grown life (finish_entry p ∷ applied_of number next some) was
-entries-two life number p first value next some was mid now is some_is mid_is now_is =
-    let last : history.Entry = history.Applied first.circuit first.place number (record { value = value; meta = unset }) true in
+entries-two life number p first value meta next some was mid now meta_is is some_is mid_is now_is =
+    let last : history.Entry = history.Applied first.circuit first.place number (record { value = value; meta = meta }) true in
     now_is ∙ ap (grown life (last ∷ [])) mid_is ∙ grown-twice life (finish_entry p ∷ []) (last ∷ []) was
+    ∙ (λ t. grown life (finish_entry p ∷ history.Applied first.circuit first.place number (record { value = value; meta = meta_is t }) true ∷ []) was)
     ∙ (λ t. grown life (finish_entry p ∷ applied_of number (sym is t) (sym some_is t)) was)
 
 -- ---- how many wait

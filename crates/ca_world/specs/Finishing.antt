@@ -4,8 +4,7 @@ use Rattle.std.specs.Prelude.{Ok, Err, Result, if◌then◌else◌, is_some, len
 use Rattle.std.specs.Prelude.{slice_get, slice_set, unwrap_or, vec_capacity, vec_len}
 use Rattle.ca_arena.specs.declared.handle.Handle.{Handle}
 use Rattle.ca_dbr.specs.Elements.{Elements}
-use Rattle.ca_records.specs.Puts.{Record, WaitingPut, record_named}
-use Rattle.ca_records.specs.Record.{unset}
+use Rattle.ca_records.specs.Puts.{Record, WaitingPut, record_named, written_meta}
 use Rattle.ca_records.specs.declared.puts.Put.{Put}
 use Rattle.ca_text.specs.declared.refusal.Refusal.{Refusal}
 use Rattle.ca_text.specs.declared.refusal.Refusal.TheVariants.{OutOfMemory}
@@ -21,6 +20,7 @@ use Rattle.ca_model.specs.ServerEvents.{about, finish_entry, first_of, next_busy
 use Rattle.ca_model.specs.ServerEvents.{next_numbers, numbers_posted, with_record}
 use Rattle.ca_model.specs.World.{Joined, PutPlace, RecordSide, ServerSide as Side, grown}
 use Rattle.ca_world.specs.Unstamped.{IsUnstamped}
+use Rattle.ca_world_servers.specs.Effects.{no_stamp}
 use Rattle.ca_world_data.specs.declared.joined.Joined.{Joined as Opened}
 use Rattle.ca_world_data.specs.declared.server.RecordSide.{RecordSide as Held}
 use Rattle.ca_world_data.specs.declared.server.ServerSide.{ServerSide}
@@ -143,7 +143,8 @@ replied_in p sent ks =
 -- the put that is applied next, with its value, as the log tells of it
 abbrev pub applied_of : (number : ℕ) → Option PutPlace → Option Elements → List history.Entry
 applied_of number (Some p) (Some value) =
-    history.Applied p.circuit p.place number (record { value = value; meta = unset }) true ∷ []
+    history.Applied p.circuit p.place number
+    (record { value = value; meta = written_meta value no_stamp }) true ∷ []
 applied_of number p value = []
 
 -- if a put is applied next, its numbers wait

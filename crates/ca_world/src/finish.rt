@@ -25,7 +25,6 @@ ghost use Rattle.ca_world_data.specs.ServerCuts.{HasRoomFor};
 use crate::next_write::{first_put, next_records, next_value};
 use crate::world::World;
 use ca_arena::Handle;
-use ca_dbr::Meta;
 use ca_display::Held;
 use ca_server_core::ServerCore;
 use ca_server_core::for_histories::bytes_of;
@@ -38,6 +37,7 @@ use ca_world_data::numbering::{check_counts, post_numbers};
 use ca_world_data::reporting::{report_ends, reserve_reports};
 use ca_world_data::room::reserve_list;
 use ca_world_data::server::{PutPlace, RecordSide, ServerSide};
+use ca_world_servers::doing::unstamped;
 use std::alloc::{AllocError, Global};
 
 // The mask of an applied write: VALUE and LOG.
@@ -180,9 +180,10 @@ fn tell_entries(
     let Some(applied) = value else {
         return;
     };
+    let meta = unstamped(&applied);
     let stored = Stored {
         held: applied,
-        meta: Meta::ZERO,
+        meta,
     };
     push_entry(
         logs,

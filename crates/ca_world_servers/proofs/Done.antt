@@ -120,9 +120,9 @@ module _ (before : Server) (h : Handle) (rs : List RecordSide) (a : Ahead) (m : 
       let parts = d.ahead.clears is.0 in
       (parts.0, parts.1, subst (λ (n : ℕ). IsParting before h n rs parts.0) (sym is.1) parts.2)
 
--- the value is stored with no stamp
+-- the value is stored with its alarm, and no stamp
 stored-as : (before : Server) (value : Elements) (w : Coming) → before.stamp ≡ record { seconds = 0; nanos = 0 } → value ≡ w.held → written w ≡ stored_now before value
-stored-as before value w header_only is = λ t. record { value = sym is t; meta = written_meta (sym header_only t) }
+stored-as before value w header_only is = λ t. record { value = sym is t; meta = written_meta (sym is t) (sym header_only t) }
 
 -- ---- what is told
 

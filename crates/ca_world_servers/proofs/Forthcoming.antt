@@ -8,9 +8,10 @@ use Rattle.ca_dbr.specs.declared.data_type.DataType.{DataType}
 use Rattle.ca_dbr.specs.declared.data_type.Form.TheVariants as form
 use Rattle.ca_dbr.specs.declared.value.Meta.{Meta}
 use Rattle.ca_dbr.specs.declared.value.Value.{Value}
-use Rattle.ca_dbr.specs.Conversion.{Fails, converted}
+use Rattle.ca_dbr.specs.Conversion.{Fails}
+use Rattle.ca_display.specs.Conversion.{converted_by}
 use Rattle.ca_dbr.specs.Elements.{Elements, base_of, elements}
-use Rattle.ca_dbr.specs.Held.{Kind, kind_of}
+use Rattle.ca_dbr.specs.Held.{display_of, Kind, kind_of}
 use Rattle.ca_dbr.specs.Reading.{ReadRefused, Reads, ReadsElements}
 use Rattle.ca_dbr.specs.Types.{base_number, type_number}
 use Rattle.ca_dbr.proofs.OneReading.{base_number-small, reads-one, type_number-one}
@@ -103,9 +104,9 @@ value-failed m k g r gives fails b e v based reads is =
     absurd cc
 
 -- what is refused for another reason than being out of memory gives nothing
-pub value-refused : (m : Fields) (a : Value) (old : Elements) (b : BaseType) (r : Refusal) → GivesElements m (Some (elements a)) → b ≡ base_of old → (r ≡ refusal.OutOfMemory → ⊥) → Fails (converted (elements a) b) r → GivesValue m (kind_of old) None
-value-refused m a old b r gives based other (inl fails) = value-failed m (kind_of old) (elements a) r gives (given-refused a old r (subst (λ (x : BaseType). converted (elements a) x ≡ Err r) based fails))
-value-refused m a old b r gives based other (inr short) = absurd (other short.0)
+pub value-refused : (m : Fields) (a : Value) (old : Elements) (r : Refusal) → GivesElements m (Some (elements a)) → (r ≡ refusal.OutOfMemory → ⊥) → Fails (converted_by (display_of old) (elements a) (base_of old)) r → GivesValue m (kind_of old) None
+value-refused m a old r gives other (inl fails) = value-failed m (kind_of old) (elements a) r gives (given-refused a old r fails)
+value-refused m a old r gives other (inr short) = absurd (other short.0)
 
 -- ---- writes
 

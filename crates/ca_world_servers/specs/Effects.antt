@@ -7,7 +7,8 @@ use Rattle.ca_dbr.specs.Elements.{elements}
 use Rattle.ca_queue.specs.Circuit.{HasNone}
 use Rattle.ca_queue.specs.Keys.{same}
 use Rattle.ca_queue.specs.Queue.{Queue}
-use Rattle.ca_records.specs.Record.{unset}
+use Rattle.ca_records.specs.declared.puts.Stamp.{Stamp}
+use Rattle.ca_records.specs.Puts.{written_meta}
 use Rattle.ca_text.specs.Command.{command_number}
 use Rattle.ca_text.specs.declared.command.Command.TheVariants as command
 use Rattle.ca_text.specs.Place.{At}
@@ -140,9 +141,13 @@ pub record IsTold (records : List RecordSide) (told : List Entry) (y : ServerSid
   pub numbers : y'.circuits.items ≡ y.circuits.items
   pub logged : logs' ≡ grown y.life told logs
 
--- the value of a write as a world stores it: it has no stamp
+-- the stamp of a write in a world: none
+abbrev pub no_stamp : Stamp
+no_stamp = record { seconds = 0; nanos = 0 }
+
+-- the value of a write as a world stores it
 abbrev pub written : Coming → Stored
-written w = record { value = w.held; meta = unset }
+written w = record { value = w.held; meta = written_meta w.held no_stamp }
 
 -- the records, of which a write makes the one of this name busy, or not
 abbrev pub busy_after : (busies : Bool) → (name : List ℕ) → PutPlace → List RecordSide

@@ -6,7 +6,7 @@ ghost use Rattle.ca_dbr.specs.Held.{kind_of};
 ghost use Rattle.ca_world_servers.specs.Coming.{Foresees, GivesElements, GivesValue, busies_by};
 
 use ca_arena::Handle;
-use ca_dbr::{BaseType, Value, convert_to, read_value};
+use ca_dbr::{BaseType, Value, read_value};
 use ca_display::Held;
 use ca_records::Record;
 use ca_server_core::ServerCore;
@@ -67,7 +67,7 @@ fn held_in(alloc: Global, message: &Message, present: &Held) -> Result<Option<He
     let Some(given) = elements_in(alloc, message)? else {
         return Ok(None);
     };
-    match convert_to(alloc, &given, present.value().base_type()) {
+    match present.convert(alloc, &given) {
         Ok(value) => {
             let held = present.with_value(value)?;
             Ok(Some(held))

@@ -1,6 +1,7 @@
 //! What a message did is told of the records of its server, in the log of its life and in the
 //! numbers that wait on its circuits.
 ghost use Rattle.std.specs.Prelude.{◌≡◌, ◌+◌, Bool, Some, map};
+ghost use Rattle.ca_records.specs.Puts.{written_meta};
 ghost use Rattle.ca_world_data.specs.Numbering.{AllAlike, AllMayCount};
 ghost use Rattle.ca_world_data.specs.Opening.{entries_in};
 ghost use Rattle.ca_world_data.specs.Reporting.{waits};
@@ -9,12 +10,13 @@ ghost use Rattle.ca_world_data.specs.ServerCuts.{HasRoomFor};
 ghost use Rattle.ca_world_servers.specs.declared.coming.Coming as coming;
 ghost use Rattle.ca_world_servers.specs.Effects.{AreApart, IsPartingOf, MayWaitFor, TellsClear};
 ghost use Rattle.ca_world_servers.specs.Effects.{TellsMessage, TellsWait, TellsWrite, busy_after};
-ghost use Rattle.ca_world_servers.specs.Effects.{wrote_by};
+ghost use Rattle.ca_world_servers.specs.Effects.{no_stamp, wrote_by};
 
 use crate::coming::Coming;
 use crate::handling::{add_waiting, make_busy};
 use crate::parting::{Parting, keep_waiting};
 use ca_dbr::Meta;
+use ca_display::Held;
 use ca_server_core::Effect;
 use ca_world_data::entries::{push_entries, push_entry};
 use ca_world_data::history::{LogEntry, Stored};
@@ -111,10 +113,8 @@ pub fn tell_write(
     };
     let Coming { name, held, .. } = write;
     let number = number_of(&name, &side.records);
-    let stored = Stored {
-        held,
-        meta: Meta::ZERO,
-    };
+    let meta = unstamped(&held);
+    let stored = Stored { held, meta };
     push_entry(
         logs,
         side.life,
@@ -122,6 +122,18 @@ pub fn tell_write(
     );
     busy_if(&mut side.records, &name, put, busies);
     post_numbers(server, &side.core, circuits, &name, WRITE_MASK);
+}
+
+/// What goes with a written value in a world: its alarm, and no stamp.
+pub fn unstamped(held: &Held) -> Meta
+    ensures { result ≡ written_meta held.now no_stamp }
+{
+    let (status, severity) = held.alarm();
+    Meta {
+        status,
+        severity,
+        ..Meta::ZERO
+    }
 }
 
 // The put makes its record busy, or not.
@@ -162,10 +174,8 @@ fn tell_wait(
     };
     let Coming { name, held, .. } = write;
     let number = number_of(&name, &side.records);
-    let stored = Stored {
-        held,
-        meta: Meta::ZERO,
-    };
+    let meta = unstamped(&held);
+    let stored = Stored { held, meta };
     push_entry(
         logs,
         side.life,

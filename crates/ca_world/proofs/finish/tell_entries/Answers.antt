@@ -16,9 +16,9 @@ push_entry-requires-2 c = c.push_entry.ensures.room 1 c.requires
 
 pub returns-clause-logged : goal.returns-clause-logged
 returns-clause-logged c =
-    entries-two c.args.life c.args.number (place_of c.args.put) (place_of c.in-Some.first) c.in-Some-value.applied (option_map place_of c.args.next) c.args.value
+    entries-two c.args.life c.args.number (place_of c.args.put) (place_of c.in-Some.first) c.in-Some-value.applied c.unstamped-meta.result (option_map place_of c.args.next) c.args.value
     (entries_in c.args.logs.now.items) (entries_in c.push_entry.new.logs.items) (entries_in c.push_entry-2.new.logs.items)
-    (ap (option_map place_of) c.in-Some.is) c.in-Some-value.is c.push_entry.ensures.logged c.push_entry-2.ensures.logged
+    c.unstamped-meta.ensures (ap (option_map place_of) c.in-Some.is) c.in-Some-value.is c.push_entry.ensures.logged c.push_entry-2.ensures.logged
 
 pub returns-clause-room : goal.returns-clause-room
 returns-clause-room c n room =

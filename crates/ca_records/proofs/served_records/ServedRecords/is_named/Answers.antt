@@ -1,9 +1,8 @@
-use Rattle.std.proofs.Common.{◌≡◌, ◌<◌, ℕ, List, length, get_or, Option, Some, sym, ap, ◌∙◌, subst}
+use Rattle.std.proofs.Common.{◌≡◌, ◌<◌, ℕ, List, length, get_or, Some, sym, ap, ◌∙◌, subst}
 use Rattle.std.proofs.lemmas.Slice.Eq.{bytes_eq-Decides}
 use Rattle.ca_text.specs.Place.{At}
 use Rattle.ca_records.specs.declared.slot.RecordSlot.{RecordSlot}
 use Rattle.ca_records.specs.declared.slot.RecordSlot.TheVariants.{Full}
-use Rattle.ca_records.specs.Chain.{record_in}
 use Rattle.ca_records.specs.Puts.{Record, record_named}
 use Rattle.ca_records.specs.Store.{present}
 use Rattle.ca_records.proofs.Copies.{at_get}

@@ -1,4 +1,4 @@
-use Rattle.std.proofs.Common.{◌≡◌, ◌∙◌, ◌+◌, ◌-◌, ℕ, List, None, false, length, ap, arith, rules, vec_len}
+use Rattle.std.proofs.Common.{◌≡◌, ◌+◌, ◌-◌, ℕ, List, None, false, length, arith, rules, vec_len}
 use Rattle.std.specs.Str.{bytes_eq}
 use Rattle.ca_text.proofs.Places.{At-within}
 use Rattle.ca_records.specs.declared.slot.RecordSlot.TheVariants.{Full}
