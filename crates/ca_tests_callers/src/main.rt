@@ -21,7 +21,8 @@
 //! - large: whether writes go on at once that are larger than a socket takes (`at_once::large`);
 //! - growths: what came of growths that were refused under a client's lock (`state::growths`);
 //! - names PORT: whether a client that searches on a circuit to this port of this host alone reads
-//!   21 from TEMP (`settings`).
+//!   21 from TEMP (`settings`);
+//! - shown PORT, and five words a record: it serves records with display data (`shown`).
 #![tactic(auto)]
 
 mod at_once;
@@ -42,6 +43,7 @@ mod prompt;
 mod reaching;
 mod server;
 mod settings;
+mod shown;
 mod spreading;
 mod state;
 mod wire;
@@ -67,7 +69,7 @@ fn main(rt: HostRuntime) -> ExitCode {
                 _ => state::growths::show(rt.alloc(), &mut out),
             },
             [_, port] => settings::show_name_server(rt, rt.alloc(), port.as_str(), &mut out),
-            _ => Err(Refusal::BadText),
+            [_, port, records @ ..] => shown::run(rt, rt.alloc(), port.as_str(), records, &mut out),
         },
         Err(refusal) => Err(refusal),
     };
