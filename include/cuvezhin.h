@@ -43,7 +43,7 @@ extern "C" {
 /* ---- the version */
 
 #define CVZ_VERSION_MAJOR 1
-#define CVZ_VERSION_MINOR 3
+#define CVZ_VERSION_MINOR 4
 
 /* The version of the library: 65,536 times its first number, and its second. A library serves each program whose header has the same first
  * number, and a second one that is not greater: calls are added, and none changes or goes. */
@@ -92,7 +92,8 @@ enum {
  *   7 to 13: the same with status and severity, 2 bytes each, and padding      14 to 20: with a time stamp too, seconds since 1990 and
  *   nanoseconds, 4 bytes each, and padding
  *
- * Since 1.3 cvz_server_add and cvz_server_set_display also take images with display data, 21 to 34. They begin with status and severity, 2 bytes each, and then have
+ * Images with display data, 21 to 34, are taken since 1.3 by cvz_server_add and cvz_server_set_display, and since 1.4 asked for by cvz_client_read. They begin
+ * with status and severity, 2 bytes each, and then have
  *
  *   INT, CHAR, LONG: the units, 8 bytes, zero-filled; limits of the type; of CHAR a byte of padding
  *   FLOAT, DOUBLE: the precision, 2 bytes; 2 of padding; units and limits
@@ -330,7 +331,7 @@ int32_t cvz_client_channel(cvz_client *client, uint64_t channel, cvz_channel *to
 /* Lets the channel go. It reports: its open requests are complete, as lost. 0, CVZ_STALE_HANDLE or CVZ_OUT_OF_MEMORY. */
 int32_t cvz_client_clear(cvz_client *client, uint64_t channel);
 
-/* Asks for the value of a live channel, as this type from 0 to 20 and with this count (0: those that there are), and writes the request's handle.
+/* Asks for the value of a live channel, as this type from 0 to 20, since 1.4 to 34, and with this count (0: those that there are), and writes the request's handle.
  * 0, CVZ_STALE_HANDLE, CVZ_NOT_LIVE, CVZ_BAD_TYPE, CVZ_NO_ACCESS, CVZ_BAD_COUNT, CVZ_OUTPUT_FULL, CVZ_ARENA_FULL or CVZ_OUT_OF_MEMORY. */
 int32_t cvz_client_read(cvz_client *client, uint64_t channel, uint16_t type, uint32_t count, uint64_t *request);
 
@@ -341,8 +342,8 @@ int32_t cvz_client_write(cvz_client *client, uint64_t channel, uint16_t type, ui
 /* The same, and the request is complete once that is done. CVZ_ARENA_FULL too. */
 int32_t cvz_client_put(cvz_client *client, uint64_t channel, uint16_t type, uint32_t count, const uint8_t *image, size_t image_size, uint64_t *request);
 
-/* Subscribes to a live channel, and writes the subscription's handle. As cvz_client_read, and CVZ_BAD_EVENT for a mask with none of its low
- * four bits. */
+/* Subscribes to a live channel, and writes the subscription's handle. As cvz_client_read, but of a type from 0 to 20, and CVZ_BAD_EVENT for a mask with none
+ * of its low four bits. */
 int32_t cvz_client_subscribe(cvz_client *client, uint64_t channel, uint16_t type, uint32_t count, uint16_t mask, uint64_t *subscription);
 
 /* Ends the subscription. 0, CVZ_STALE_HANDLE, CVZ_OUTPUT_FULL or CVZ_OUT_OF_MEMORY. */
@@ -387,7 +388,8 @@ int32_t cvz_client_datagram(cvz_client *client, uint64_t now, const cvz_address 
 int32_t cvz_client_next(cvz_client *client, cvz_notice *told);
 
 /* Copies the image of the value of the notice that was taken last, as far as the room takes it, and writes how long it is. The type is the
- * notice's, or that plus CVZ_STS or CVZ_TIME. 0, CVZ_BAD_TYPE or CVZ_OUT_OF_MEMORY. */
+ * notice's, or that plus CVZ_STS or CVZ_TIME; since 1.4 also plus CVZ_GRAPHIC or CVZ_CONTROL, if the value was read with display data. What the type that
+ * was read lacks is zero, as its time stamp then. 0, CVZ_BAD_TYPE or CVZ_OUT_OF_MEMORY. */
 int32_t cvz_client_value(cvz_client *client, uint16_t type, uint8_t *room, size_t room_size, size_t *size);
 
 /* ---- a repeater

@@ -1,6 +1,7 @@
 /* Calls of the library, each with the answer that it has to give, worked by hand from the protocol: see tools/library. With an argument one call
  * also breaks a promise: it says that a room is greater than it is, which gcc's sanitizer has to find. */
 #include "library-test.h"
+#include "library-display.h"
 
 #include <stdlib.h>
 
@@ -369,26 +370,6 @@ static void loads(void)
     BUSY("SETP", CVZ_NOT_BUSY, "");
     IS(cvz_server_remove(&server, T("SETP")), CVZ_UNKNOWN_RECORD);
 }
-
-/* What an input/output controller of EPICS Base 7.0.3.1 sent of an `ao` with display data, in each type: see crates/ca_tests/src/display.rt. */
-static const struct { unsigned type; const char *image; } recorded[] = {
-    {21, "00000000 322e3735 30000000 00000000 00000000 00000000 00000000 00000000 00000000 00000000 00000000"},
-    {22, "00000000 6d412f73 00000000 0064ffec 005a0050 fff6fff1 0002"},
-    {23, "00000000 00030000 6d412f73 00000000 42c90000 c1a20000 42b50000 42a08000 c1280000 c17c0000 40300000"},
-    {25, "00000000 6d412f73 00000000 64ec5a50 f6f10002"},
-    {26, "00000000 6d412f73 00000000 00000064 ffffffec 0000005a 00000050 fffffff6 fffffff1 00000002"},
-    {27, "00000000 00030000 6d412f73 00000000 40592000 00000000 c0344000 00000000 4056a000 00000000 40541000 00000000 c0250000 00000000 "
-         "c02f8000 00000000 40060000 00000000"},
-    {28, "00000000 322e3735 30000000 00000000 00000000 00000000 00000000 00000000 00000000 00000000 00000000"},
-    {29, "00000000 6d412f73 00000000 0064ffec 005a0050 fff6fff1 005fffee 0002"},
-    {30, "00000000 00030000 6d412f73 00000000 42c90000 c1a20000 42b50000 42a08000 c1280000 c17c0000 42be4000 c1908000 40300000"},
-    {32, "00000000 6d412f73 00000000 64ec5a50 f6f15fee 0002"},
-    {33, "00000000 6d412f73 00000000 00000064 ffffffec 0000005a 00000050 fffffff6 fffffff1 0000005f ffffffee 00000002"},
-    {34, "00000000 00030000 6d412f73 00000000 40592000 00000000 c0344000 00000000 4056a000 00000000 40541000 00000000 c0250000 00000000 "
-         "c02f8000 00000000 4057c800 00000000 c0321000 00000000 40060000 00000000"},
-    {CVZ_STRING, "322e3735 30000000 00000000 00000000 00000000 00000000 00000000 00000000 00000000 00000000"},
-    {CVZ_ENUM, "0002"}, {CVZ_LONG, "00000002"}, {CVZ_DOUBLE, "40060000 00000000"}
-};
 
 /* A READ_NOTIFY of one element of SID 65536, and the reply. */
 static void is_read(uint64_t circuit, unsigned type, const char *image)

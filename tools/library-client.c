@@ -1,5 +1,6 @@
 /* A client's calls, each with the answer that it has to give, worked by hand from the protocol: see tools/library. */
 #include "library-test.h"
+#include "library-display.h"
 
 static cvz_client client;
 static uint8_t room[4096];
@@ -124,7 +125,7 @@ static void asks(void)
     size_t size = 0;
     const uint8_t image[4] = {0, 0, 0, 22};
     IS(cvz_client_value(&client, CVZ_LONG, room, sizeof room, &size), CVZ_BAD_TYPE);
-    IS(cvz_client_read(&client, channel, 21, 1, &request), CVZ_BAD_TYPE);
+    IS(cvz_client_read(&client, channel, 35, 1, &request), CVZ_BAD_TYPE);
     IS(cvz_client_read(&client, channel, CVZ_LONG, 2, &request), CVZ_BAD_COUNT);
     IS(cvz_client_read(&client, channel, CVZ_TIME + CVZ_LONG, 1, &request), 0);
     OUTPUT("000f0000 00130001 00090001 00010000");
@@ -137,6 +138,8 @@ static void asks(void)
     IS(cvz_client_value(&client, CVZ_TIME + CVZ_LONG, room, sizeof room, &size), 0);
     bytes_are(__LINE__, room, size, "00020001 00000005 00000006 00000015");
     IS(cvz_client_value(&client, CVZ_DOUBLE, room, sizeof room, &size), CVZ_BAD_TYPE);
+    IS(cvz_client_value(&client, CVZ_GRAPHIC + CVZ_LONG, room, sizeof room, &size), CVZ_BAD_TYPE);
+    IS(cvz_client_value(&client, CVZ_CONTROL + CVZ_LONG, room, sizeof room, &size), CVZ_BAD_TYPE);
     memset(room, 9, 4);
     IS(cvz_client_value(&client, CVZ_LONG, room, 3, &size), 0);
     IS(size, 4);
@@ -155,6 +158,93 @@ static void asks(void)
     NOTICE(CVZ_NOTICE_COMPLETED, request, CVZ_DONE, 0, 0, 0);
     IS(cvz_client_write(&client, channel, CVZ_LONG, 1, image, 4), 0);
     OUTPUT("00040008 00050001 00090001 00000000 00000016 00000000");
+}
+
+/* A read of one element of the channel as a type goes out, and is answered by this image, of a type. */
+static uint64_t answered(unsigned type, unsigned of_type, const uint8_t *image, size_t size)
+{
+    uint64_t request;
+    const size_t padded = (size + 7) / 8 * 8;
+    uint8_t bytes[600] = {0, 15, (uint8_t)(padded >> 8), (uint8_t)padded, 0, (uint8_t)of_type, 0, 1, 0, 0, 0, 1};
+    IS(cvz_client_read(&client, channel, (uint16_t)type, 1, &request), 0);
+    IS(cvz_client_output(&client, circuit, room, sizeof room), 16);
+    IS(memcmp(room, "\0\17\0\0\0", 5) == 0 && room[5] == type && memcmp(room + 6, "\0\1\0\11\0\1", 6) == 0, 1);
+    IS(cvz_client_sent(&client, circuit, 16), 0);
+    memcpy(bytes + 12, room + 12, 4);
+    memcpy(bytes + 16, image, size);
+    IS(cvz_client_give(&client, circuit, bytes, 16 + padded, false), 0);
+    hear("", 1);
+    return request;
+}
+
+/* The value of the last notice is this in a type. */
+#define VALUE(type, wanted) do { \
+    size_t its = 0; \
+    IS(cvz_client_value(&client, type, room, sizeof room, &its), 0); \
+    bytes_are(__LINE__, room, its, wanted); \
+} while (0)
+
+#define NO_VALUE(type) IS(cvz_client_value(&client, type, room, sizeof room, &size), CVZ_BAD_TYPE)
+
+/* Reads with display data: each image as it came, what its type does not have as zeros, and images that are none. */
+static void is_shown(void)
+{
+    uint64_t request;
+    size_t size = 7;
+    uint8_t image[512];
+    for (size_t at = 0; recorded[at].type >= CVZ_GRAPHIC; at++) {
+        const unsigned type = recorded[at].type;
+        const size_t bytes = unhex(recorded[at].image, image);
+        memcpy(image, "\0\3\0\2", 4);
+        request = answered(type, type, image, bytes);
+        NOTICE(CVZ_NOTICE_COMPLETED, request, CVZ_VALUE, 0, type % 7, 1);
+        IS(cvz_client_value(&client, (uint16_t)type, room, sizeof room, &size), 0);
+        IS(size == bytes && memcmp(room, image, bytes) == 0, 1);
+        IS(cvz_client_value(&client, (uint16_t)(CVZ_STS + type % 7), room, sizeof room, &size), 0);
+        IS(memcmp(room, "\0\3\0\2", 4), 0);
+        for (uint16_t other = CVZ_GRAPHIC; other <= CVZ_CONTROL + CVZ_DOUBLE; other++)
+            IS(cvz_client_value(&client, other, room, sizeof room, &size), other % 7 == type % 7 ? 0 : CVZ_BAD_TYPE);
+        NO_VALUE(35);
+        NO_VALUE((uint16_t)((type + 1) % 7));
+    }
+    /* The last was of control limits of a DOUBLE; they are zero where a graphic type was read. */
+    VALUE(CVZ_GRAPHIC + CVZ_DOUBLE, "00030002 00030000 6d412f73 00000000 40592000 00000000 c0344000 00000000 4056a000 00000000 40541000 00000000 c0250000 00000000 "
+          "c02f8000 00000000 40060000 00000000");
+    VALUE(CVZ_DOUBLE, "40060000 00000000");
+    VALUE(CVZ_TIME + CVZ_DOUBLE, "00030002 00000000 00000000 00000000 40060000 00000000");
+    memset(room, 9, 8);
+    IS(cvz_client_value(&client, CVZ_CONTROL + CVZ_DOUBLE, room, 7, &size), 0);
+    IS(size, 88);
+    bytes_are(__LINE__, room, 8, "00030002 00030009");
+    answered(CVZ_GRAPHIC + CVZ_INT, CVZ_GRAPHIC + CVZ_INT, image, unhex(recorded[1].image, image));
+    IS(cvz_client_next(&client, &(cvz_notice){0}), 1);
+    VALUE(CVZ_CONTROL + CVZ_INT, "00000000 6d412f73 00000000 0064ffec 005a0050 fff6fff1 00000000 0002");
+    NO_MORE();
+    VALUE(CVZ_GRAPHIC + CVZ_INT, recorded[1].image);
+    /* States: two of 16, and one too many. */
+    memset(image, 0, sizeof image);
+    memcpy(image, "\0\7\0\1\0\2off", 9);
+    memcpy(image + 32, "failed, but still running", 25);
+    image[423] = 1;
+    for (uint16_t type = CVZ_GRAPHIC + CVZ_ENUM; type <= CVZ_CONTROL + CVZ_ENUM; type += 7) {
+        request = answered(type, type, image, 424);
+        NOTICE(CVZ_NOTICE_COMPLETED, request, CVZ_VALUE, 0, CVZ_ENUM, 1);
+        IS(cvz_client_value(&client, type, room, sizeof room, &size), 0);
+        IS(size == 424 && memcmp(room, image, 424) == 0, 1);
+    }
+    image[5] = 17;
+    request = answered(CVZ_GRAPHIC + CVZ_ENUM, CVZ_GRAPHIC + CVZ_ENUM, image, 424);
+    NOTICE(CVZ_NOTICE_COMPLETED, request, CVZ_UNREADABLE, -CVZ_BAD_COUNT, 0, 0);
+    NO_VALUE(CVZ_ENUM);
+    /* Too few bytes, and types of the other kind. */
+    request = answered(CVZ_CONTROL + CVZ_DOUBLE, CVZ_CONTROL + CVZ_DOUBLE, image, 80);
+    NOTICE(CVZ_NOTICE_COMPLETED, request, CVZ_UNREADABLE, -CVZ_SHORT, 0, 0);
+    request = answered(CVZ_CONTROL + CVZ_LONG, CVZ_STS + CVZ_LONG, image, 48);
+    NOTICE(CVZ_NOTICE_COMPLETED, request, CVZ_UNREADABLE, -CVZ_BAD_TYPE, 0, 0);
+    request = answered(CVZ_STS + CVZ_LONG, CVZ_CONTROL + CVZ_LONG, image, 48);
+    NOTICE(CVZ_NOTICE_COMPLETED, request, CVZ_UNREADABLE, -CVZ_BAD_TYPE, 0, 0);
+    IS(cvz_client_read(&client, channel, CVZ_CONTROL + CVZ_LONG, 2, &request), CVZ_BAD_COUNT);
+    IS(cvz_client_subscribe(&client, channel, CVZ_CONTROL + CVZ_LONG, 1, CVZ_MASK_PROPERTY, &request), CVZ_BAD_TYPE);
 }
 
 /* A subscription with an update, which is ended; and one whose mask is none. */
@@ -224,6 +314,7 @@ int main(void)
     IS(cvz_client_new(&client, T("me"), T("here"), &server, 1, &server, 0, 0), 0);
     finds();
     asks();
+    is_shown();
     watches();
     ends();
     IS(cvz_client_new(&client, T("me"), T("here"), &server, 1, &server, 0, 0), 0);

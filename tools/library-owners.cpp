@@ -193,6 +193,29 @@ static void is_long(Ends &ends)
     REFUSED(CVZ_STALE_HANDLE, ends.client.channel(wave));
 }
 
+/* A record with display data, read with them. */
+static void is_shown(Ends &ends)
+{
+    const char *shown = "00000000 6d412f73 00000000 00000064 ffffffec 0000005a 00000050 fffffff6 fffffff1 0000005f ffffffee 00000002";
+    ends.server.add("SHOWN", 1, false, CVZ_CONTROL + CVZ_LONG, 1, image(shown));
+    const Channel channel = ends.client.open("SHOWN", 0, 20'000);
+    ends.client.tick(40'000);
+    cvz_address to{};
+    const std::size_t size = ends.client.search(to, room);
+    ends.server.datagram({room.data(), size});
+    ends.client.datagram(40'000, to, {room.data(), ends.server.answer(room)});
+    ends.speak();
+    ends.client.read(channel, CVZ_CONTROL + CVZ_LONG, 1);
+    ends.speak();
+    IMAGE(ends.taken(), "00000002");
+    IMAGE(ends.client.value(CVZ_CONTROL + CVZ_LONG), shown);
+    REFUSED(CVZ_BAD_TYPE, ends.client.value(CVZ_CONTROL + CVZ_DOUBLE));
+    ends.client.read(ends.temp, CVZ_CONTROL + CVZ_LONG, 1);
+    ends.speak();
+    IS(ends.told.outcome == CVZ_FAILED && ends.told.status == 114, true);
+    REFUSED(CVZ_BAD_TYPE, ends.client.read(channel, 35, 1));
+}
+
 static void refuses(Ends &ends)
 {
     Server &server = ends.server;
@@ -299,6 +322,7 @@ int main()
     is_slow(ends);
     moves(ends);
     is_long(ends);
+    is_shown(ends);
     refuses(ends);
     parts(ends);
     repeats();

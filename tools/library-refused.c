@@ -144,6 +144,9 @@ static bool is_well(int32_t answer, int *refused, bool *is_wrong)
     return answer >= 0;
 }
 
+/* The client's read with display data; no handle until it is asked for. */
+static uint64_t shown_read;
+
 /* What the client said is answered by the server, until neither has anything to say. False if an end has closed. */
 static bool talk(cvz_server *server, uint64_t at, cvz_client *client, uint64_t circuit, int *refused, bool *is_wrong)
 {
@@ -169,6 +172,8 @@ static bool talk(cvz_server *server, uint64_t at, cvz_client *client, uint64_t c
                 *refused += told.outcome == CVZ_FAILED || told.outcome == CVZ_UNREADABLE || told.kind == CVZ_NOTICE_ENDED;
                 if (told.outcome == CVZ_VALUE && told.count > 0)
                     is_well(cvz_client_value(client, CVZ_TIME + CVZ_LONG, bytes, sizeof bytes, &size), refused, is_wrong);
+                if (told.outcome == CVZ_VALUE && told.of == shown_read)
+                    is_well(cvz_client_value(client, CVZ_GRAPHIC + CVZ_LONG, bytes, sizeof bytes, &size), refused, is_wrong);
             }
         }
         *refused += did.cause == CVZ_CAUSE_OUT_OF_MEMORY || cause == CVZ_CAUSE_OUT_OF_MEMORY;
@@ -180,7 +185,7 @@ static bool talk(cvz_server *server, uint64_t at, cvz_client *client, uint64_t c
 static int run_client(cvz_server *server, cvz_client *client)
 {
     static uint8_t bytes[2048];
-    const uint8_t image[4] = {0, 0, 0, 21};
+    const uint8_t image[48] = {[47] = 21};
     const cvz_address at = {0x7f000001, 5064};
     uint64_t channel, circuit, request;
     cvz_address to;
@@ -189,7 +194,8 @@ static int run_client(cvz_server *server, cvz_client *client)
     size_t size;
     int refused = 0;
     bool is_wrong = false;
-    if (!is_well(cvz_server_new(server, 5064, 0), &refused, &is_wrong) || !is_well(cvz_server_add(server, T("TEMP"), 1, false, CVZ_LONG, 1, image, 4), &refused, &is_wrong)
+    shown_read = UINT64_MAX;
+    if (!is_well(cvz_server_new(server, 5064, 0), &refused, &is_wrong) || !is_well(cvz_server_add(server, T("TEMP"), 1, false, CVZ_CONTROL + CVZ_LONG, 1, image, 48), &refused, &is_wrong)
         || !is_well(cvz_server_accept(server, &circuit), &refused, &is_wrong) || !is_well(cvz_client_new(client, T("me"), T("here"), &at, 1, &at, 0, 0), &refused, &is_wrong)
         || !is_well(cvz_client_open(client, T("TEMP"), 0, 0, &channel), &refused, &is_wrong) || !is_well(cvz_client_tick(client, 1000), &refused, &is_wrong)
         || (size = cvz_client_search(client, &to, bytes, sizeof bytes)) == 0 || !is_well(cvz_server_datagram(server, bytes, size), &refused, &is_wrong)
@@ -207,6 +213,9 @@ static int run_client(cvz_server *server, cvz_client *client)
         && !talk(server, circuit, client, wanted.circuit, &refused, &is_wrong))
         return is_wrong ? -1 : refused;
     if (is_well(cvz_client_read(client, channel, CVZ_TIME + CVZ_LONG, 1, &request), &refused, &is_wrong)
+        && !talk(server, circuit, client, wanted.circuit, &refused, &is_wrong))
+        return is_wrong ? -1 : refused;
+    if (is_well(cvz_client_read(client, channel, CVZ_CONTROL + CVZ_LONG, 1, &shown_read), &refused, &is_wrong)
         && !talk(server, circuit, client, wanted.circuit, &refused, &is_wrong))
         return is_wrong ? -1 : refused;
     is_well(cvz_client_clear(client, channel), &refused, &is_wrong);

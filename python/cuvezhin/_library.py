@@ -8,7 +8,7 @@ from .errors import LibraryMissing, Refused
 
 NAME = "libcuvezhin.so.1"
 # The interface that the package needs: one with this first number, and at least this second one.
-MAJOR, MINOR = 1, 3
+MAJOR, MINOR = 1, 4
 
 NEEDS_BYTES, HANDLED, OUTPUT_FULL, CLOSED = range(4)
 QUIET, WROTE, BUSIED, QUEUED, REFUSED, CREATED, CLEARED, SUBSCRIBED, CANCELLED, EVENTS_OFF, EVENTS_ON, WRITE_REFUSED = range(12)

@@ -12,6 +12,7 @@ from . import addresses
 from ._channels import Channel, Spread
 from ._circuits import Circuit, Circuits, wake
 from ._searches import Searches
+from .display import Display, display_of
 from .errors import Error, Lost, Refused, ServerRefused, TimedOut, Unreadable
 from .monitor import Feed, Monitor
 from .values import Mask, Reading, Type, Value, elements, reading
@@ -72,7 +73,8 @@ class Client:
         self._channels: dict[int, Channel] = {}
         # How many channels are searched for, or not live yet.
         self._unsettled = 0
-        self._requests: dict[int, tuple[asyncio.Future[Optional[Reading]], Channel]] = {}
+        # What each request that is open is to bring, and how the value that comes is read.
+        self._requests: dict[int, tuple[asyncio.Future[Any], Channel, Callable[[Channel, lib.Notice], Any]]] = {}
         self._feeds: dict[int, Feed] = {}
         self._spread = Spread()
 
@@ -122,13 +124,21 @@ class Client:
         """The value of a channel with its alarm and time stamp, as a type (its own), and with so many elements (0: those that there are).
 
         Raises TimedOut, Lost, ServerRefused, Unreadable, or Refused: NoAccess, BadCount."""
+        found: Reading = await self._read(name, lib.TIME, type, count, timeout, self._value)
+        return found
+
+    async def read_display(self, name: str, *, type: Optional[Type] = None, count: int = 0, timeout: Timeout = _DEFAULT) -> Display:
+        """The value of a channel with its alarm and its display data: units, precision, limits and states. As `read`; such a value has no time stamp.
+
+        A server that has no display data refuses it: ServerRefused, with the status 114."""
+        found: Display = await self._read(name, lib.CONTROL, type, count, timeout, self._display)
+        return found
+
+    async def _read(self, name: str, form: int, kind: Optional[Type], count: int, timeout: Timeout, read: Callable[[Channel, lib.Notice], Any]) -> Any:
         channel, limit = self._channel(name), self._limit(timeout)
         await self._ready(channel, limit)
-        kind = channel.type if type is None else type
-        await self._asked(channel, limit, self._core.call_read, lib.TIME + kind, count, self._core.number)
-        found = await self._until(self._requested(channel), channel, limit)
-        assert found is not None
-        return found
+        await self._asked(channel, limit, self._core.call_read, form + (channel.type if kind is None else kind), count, self._core.number)
+        return await self._until(self._requested(channel, read), channel, limit)
 
     async def get_many(self, names: Iterable[str], *, timeout: Timeout = _DEFAULT) -> dict[str, Union[Value, Error]]:
         """The values of many channels at once, by their names; the error in place of a value that could not be got."""
@@ -285,12 +295,12 @@ class Client:
             await self._ready(channel, limit)
         lib.checked(answer, channel.name)
 
-    def _requested(self, channel: Channel) -> "asyncio.Future[Optional[Reading]]":
+    def _requested(self, channel: Channel, read: Optional[Callable[[Channel, lib.Notice], Any]] = None) -> "asyncio.Future[Any]":
         """What the request that was just made is to bring. It goes out at once if it is the only one, else with others of this turn of the loop."""
-        future: asyncio.Future[Optional[Reading]] = self._loop.create_future()
+        future: asyncio.Future[Any] = self._loop.create_future()
         circuit, is_only = channel.circuit, not self._requests
         assert circuit
-        self._requests[self._core.number.value] = future, channel
+        self._requests[self._core.number.value] = future, channel, read or self._value
         if is_only:
             circuit.flush()
         else:
@@ -377,11 +387,11 @@ class Client:
                     log.warning("%s", error)
 
     def _completed(self, notice: lib.Notice) -> None:
-        future, channel = self._requests.pop(notice.of)
+        future, channel, read = self._requests.pop(notice.of)
         if future.done():
             return
         if notice.outcome == lib.VALUE:
-            future.set_result(self._value(channel, notice))
+            future.set_result(read(channel, notice))
         elif notice.outcome == lib.DONE:
             future.set_result(None)
         else:
@@ -389,6 +399,9 @@ class Client:
 
     def _value(self, channel: Channel, notice: lib.Notice) -> Reading:
         return reading(channel.name, notice.type, notice.count, self._core.image(lib.TIME + notice.type), channel.greatest == 1)
+
+    def _display(self, channel: Channel, notice: lib.Notice) -> Display:
+        return display_of(channel.name, notice.type, notice.count, self._core.image(lib.CONTROL + notice.type), channel.greatest == 1)
 
     def _live(self, channel: Channel, circuit: Optional[Circuit]) -> None:
         state = self._state

@@ -4,7 +4,7 @@ import struct
 from collections.abc import Sequence
 from typing import Any, NamedTuple, Optional
 
-from .values import Type, elements
+from .values import FORMATS, TYPES, Type, Value, elements, text_of, value_of
 
 UNITS, STATE, STATES = 8, 26, 16
 REALS = (Type.FLOAT, Type.DOUBLE)
@@ -22,6 +22,24 @@ class Limits(NamedTuple):
     alarm: Optional[Range] = None
     warning: Optional[Range] = None
     control: Optional[Range] = None
+
+
+class Display(NamedTuple):
+    """A value with what a screen shows beside it; what a value of its type does not have is None."""
+    name: str
+    value: Value
+    type: Type
+    #: The alarm's status and severity (0 none, 1 minor, 2 major, 3 invalid).
+    status: int
+    severity: int
+    #: Of a number.
+    units: Optional[str] = None
+    #: Of a FLOAT or DOUBLE: how many digits are shown after the point.
+    precision: Optional[int] = None
+    #: Of a number: as the server sends them, so that none of the four is None.
+    limits: Optional[Limits] = None
+    #: Of an ENUM: the names of its states, from 0 on.
+    states: Optional[list[str]] = None
 
 
 def display_image(kind: Type, units: Optional[str], precision: Optional[int], limits: Optional[Limits], states: Optional[Sequence[str]]) -> Optional[bytes]:
@@ -49,6 +67,26 @@ def display_image(kind: Type, units: Optional[str], precision: Optional[int], li
     least, most = _pair("control", its.control, 0)
     image = elements(kind, [high, low, hihi, above, below, lolo, most, least])[1]
     return begin + _field("units", units or "", UNITS) + image + bytes(kind == Type.CHAR)
+
+
+def display_of(name: str, number: int, count: int, image: memoryview, is_one: bool) -> Display:
+    """What bytes say that begin with an image of a control type; `is_one` if the record has a greatest count of 1."""
+    kind = TYPES[number]
+    status, severity = struct.unpack_from(">HH", image)
+    rest, found = image[4:], Display(name, 0, kind, status, severity)
+    if kind == Type.ENUM:
+        many, = struct.unpack_from(">H", rest)
+        found = found._replace(states=[text_of(rest[at:at + STATE].tobytes()) for at in range(2, 2 + many * STATE, STATE)])
+        rest = rest[2 + STATES * STATE:]
+    elif kind in NUMBERS:
+        if kind in REALS:
+            found = found._replace(precision=struct.unpack_from(">h", rest)[0])
+            rest = rest[4:]
+        form = struct.Struct(f">8{FORMATS[kind]}")
+        high, low, hihi, above, below, lolo, most, least = form.unpack_from(rest, UNITS)
+        found = found._replace(units=text_of(rest[:UNITS].tobytes()), limits=Limits((low, high), (lolo, hihi), (below, above), (least, most)))
+        rest = rest[UNITS + form.size + (kind == Type.CHAR):]
+    return found._replace(value=value_of(kind, count, rest, is_one))
 
 
 def _states(names: Sequence[str]) -> bytes:

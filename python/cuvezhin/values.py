@@ -143,18 +143,21 @@ def reading(name: str, number: int, count: int, image: memoryview, is_one: bool)
         status, severity, seconds, nanoseconds, value = ONE[kind].unpack_from(image)
         return Reading(name, value, kind, status, severity, EPOCH + seconds, nanoseconds)
     status, severity, seconds, nanoseconds = HEAD.unpack_from(image)
-    rest = image[HEAD.size + PADDING[kind]:]
-    found: Value
-    if kind == Type.STRING:
-        texts = [text_of(rest[at:at + TEXT].tobytes()) for at in range(0, count * TEXT, TEXT)]
-        found = texts[0] if is_one and count == 1 else texts
-    else:
-        all_elements = array(FORMATS[kind])
-        all_elements.frombytes(rest[:count * struct.calcsize(FORMATS[kind])])
-        if sys.byteorder == "little":
-            all_elements.byteswap()
-        found = memoryview(all_elements)
+    found = value_of(kind, count, image[HEAD.size + PADDING[kind]:], is_one)
     return Reading(name, found, kind, status, severity, EPOCH + seconds, nanoseconds)
+
+
+def value_of(kind: Type, count: int, image: memoryview, is_one: bool) -> Value:
+    """The value whose elements bytes begin with."""
+    found: Any
+    if kind == Type.STRING:
+        found = [text_of(image[at:at + TEXT].tobytes()) for at in range(0, count * TEXT, TEXT)]
+    else:
+        found = array(FORMATS[kind])
+        found.frombytes(image[:count * found.itemsize])
+        if sys.byteorder == "little":
+            found.byteswap()
+    return found[0] if is_one and count == 1 else found if kind == Type.STRING else memoryview(found)
 
 
 def kind_of(value: Any) -> Type:

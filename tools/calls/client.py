@@ -70,9 +70,9 @@ class Client:
             refuse(10)
         return f"live {c.data_type} {c.count} {c.rights}" if c.phase == "live" else c.phase
 
-    def ask(self, h, data_type, count, ids):
+    def ask(self, h, data_type, count, ids, types=range(21)):
         c = self.live(h)
-        if data_type > 20:
+        if data_type not in types:
             refuse(4)
         if not c.rights & 1:
             refuse(14)
@@ -93,14 +93,21 @@ class Client:
         self.check_output(c.circuit)
         return c
 
-    def issue(self, h, command):
-        q = self.requests.give(Thing(channel=h, circuit=self.channels.at(h).circuit, command=command, open=True))
+    def issue(self, h, command, with_display=False):
+        circuit = self.channels.at(h).circuit
+        q = self.requests.give(Thing(channel=h, circuit=circuit, command=command, open=True, with_display=with_display))
         self.issued.append(q)
         return q
 
     def read(self, h, data_type, count):
-        c = self.ask(h, data_type, count, self.requests)
-        q = self.issue(h, READ_NOTIFY)
+        return self.read_as(h, data_type, count, range(21))
+
+    def read_display(self, h, data_type, count):
+        return self.read_as(h, data_type, count, range(21, 35))
+
+    def read_as(self, h, data_type, count, types):
+        c = self.ask(h, data_type, count, self.requests, types)
+        q = self.issue(h, READ_NOTIFY, types[0] == 21)
         self.send(c.circuit, READ_NOTIFY, data_type, count, c.sid, wire_of(q))
         return handle_text(q)
 
@@ -417,7 +424,7 @@ class Client:
             return []
         if m.command == WRITE_NOTIFY:
             return self.completed(q, "done" if m.p1 == NORMAL else f"failed {m.p1}")
-        return self.completed(q, outcome(m.data_type, m.count, m.p1, m.payload))
+        return self.completed(q, outcome(m.data_type, m.count, m.p1, m.payload, self.requests.at(q).with_display))
 
     def updated(self, circuit, m):
         if not m.payload:

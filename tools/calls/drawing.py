@@ -51,9 +51,25 @@ class Name(bytes):
 HOSTS = [(0x7F000001, 5064), (0x7F000001, 5066), (0x0A000002, 5064)]
 
 
+def any_bytes(rng, size):
+    return bytes(rng.randrange(256) for _ in range(size))
+
+
 def any_value(rng, most):
     base = rng.randrange(7)
-    return base, [bytes(rng.randrange(256) for _ in range(SIZE[base])) for _ in range(rng.choice([0, 1, 1, 1, most, most + 1]))], NO_META
+    return base, [any_bytes(rng, SIZE[base]) for _ in range(rng.choice([0, 1, 1, 1, most, most + 1]))], NO_META
+
+
+def any_display(rng, data_type):
+    """An image of this type with display data, in one of ten cases cut, and how many elements it has."""
+    size, count = SIZE[data_type % 7], rng.choice([1, 1, 2, 0])
+    # Of FLOAT and DOUBLE the last is a NaN.
+    limits = [rng.choice([any_bytes(rng, size), any_bytes(rng, size), bytes(size), b"\xff\xf0\0\1\0\0\0\0"[:size]]) for _ in range(8)]
+    states = [rng.choice([b"OFF".ljust(26, b"\0"), bytes(26), any_bytes(rng, 26)]) for _ in range(rng.choice([0, 1, 2, 2, 3, 16, 17]))]
+    display = rng.choice([b"mm".ljust(8, b"\0"), any_bytes(rng, 8)]), rng.choice([0, 3, rng.randrange(-2**15, 2**15)]), limits, states
+    elements = [any_bytes(rng, size) for _ in range(count)]
+    b = display_image(data_type, elements, rng.choice([(0, 0), (1, 2), (65535, 258)]), display)
+    return count, b if rng.random() < 0.9 else b[:rng.randrange(len(b))]
 
 
 class ClientDraw:
@@ -68,7 +84,7 @@ class ClientDraw:
         self.table = Table(self.core, first)
         self.now = 0
         draws = [self.open] * 4 + [self.reply] * 6 + [self.connected] * 5 + [self.hear] * 40 + [self.read] * 5 + [
-            self.write] * 2 + [self.write_notify] * 4 + [self.subscribe] * 5 + [self.unsubscribe] * 2 + [self.clear] * 2 + [
+            self.read_display] * 4 + [self.write] * 2 + [self.write_notify] * 4 + [self.subscribe] * 5 + [self.unsubscribe] * 2 + [self.clear] * 2 + [
             self.cut, self.tick, self.tick, self.state, self.take, self.give_more, self.beacon, self.wanted]
         for _ in range(n):
             rng.choice(draws)()
@@ -128,6 +144,15 @@ class ClientDraw:
     def read(self):
         self.table.call("read", self.live(), self.rng.choice([5, 5, 19, 0, 20, 21, 36]), self.rng.choice([0, 1, 1, 2, 3]))
 
+    def read_display(self):
+        """Its reply may come at once: few of those that are drawn apart are to one that is open."""
+        rng, h = self.rng, self.live()
+        data_type = rng.choice([rng.randrange(21, 35)] * 20 + [20, 35, 5, 65535])
+        self.table.call("read_display", h, data_type, rng.choice([0, 1, 1, 1, 2, 3]))
+        c = self.core.channels.at(h)
+        if c and c.phase == "live" and rng.random() < 0.7:
+            self.table.call("hear", c.circuit, self.read_reply(c.circuit))
+
     def subscribe(self):
         self.table.call("subscribe", self.live(), self.rng.choice([5, 5, 19, 20, 21]), self.rng.choice([0, 1, 2, 3]),
                         self.rng.choice([1, 2, 3, 15]))
@@ -162,7 +187,7 @@ class ClientDraw:
             return self.rng.choice([self.open, self.reply, self.connected])()
         circuit = self.circuit()
         draws = [self.rights, self.created, self.created, self.created, self.create_failed, self.cleared, self.cleared, self.gone,
-                 self.read_reply, self.read_reply, self.put_reply] + [self.update] * 5 + [self.confirmation, self.error, self.search_again,
+                 self.read_reply, self.read_reply, self.read_reply, self.put_reply] + [self.update] * 5 + [self.confirmation, self.error, self.search_again,
                  self.other]
         messages = b"".join(self.rng.choice(draws)(circuit) for _ in range(self.rng.choice([1, 1, 1, 2, 3])))
         if self.rng.random() < 0.01:
@@ -195,14 +220,17 @@ class ClientDraw:
     def image(self):
         rng = self.rng
         data_type, count = rng.choice([5, 5, 19, 12, 4, 0, 20, 18]), rng.choice([1, 1, 2])
-        b = image(data_type, [bytes(rng.randrange(256) for _ in range(SIZE[data_type % 7])) for _ in range(count)], (1, 2, 3, 4))
+        b = image(data_type, [any_bytes(rng, SIZE[data_type % 7]) for _ in range(count)], (1, 2, 3, 4))
         return data_type, count, b if rng.random() < 0.9 else b[:-8]
 
     def read_reply(self, circuit):
         rng, ioid = self.rng, self.ioid(circuit, READ_NOTIFY)
         if rng.random() < 0.2:
             return spelled(READ_NOTIFY, 5, 1, rng.choice([BADTYPE, GETFAIL, BADCHID]), ioid)
-        data_type, count, b = self.image()
+        q = self.core.requests.by_wire(ioid)
+        is_display = bool(q) and self.core.requests.at(q).with_display
+        data_type = rng.randrange(21, 35)
+        data_type, count, b = (data_type, *any_display(rng, data_type)) if is_display != (rng.random() < 0.1) else self.image()
         return spelled(READ_NOTIFY, data_type, count, NORMAL, ioid, b)
 
     def put_reply(self, circuit):
@@ -335,7 +363,7 @@ class ServerDraw:
             elements = [rng.choice([b"42", b" -7 ", b"4x2", b"", b"99999", b"-0", b"0007"]).ljust(40, b"\0") for _ in range(count)]
             return base, count, b"".join(elements)[:rng.choice([8, 40, 80])]
         small = [bytes(SIZE[base % 7] - 1) + bytes([rng.randrange(256)]) for _ in range(count)]
-        wide = [bytes(rng.randrange(256) for _ in range(SIZE[base % 7])) for _ in range(count)]
+        wide = [any_bytes(rng, SIZE[base % 7]) for _ in range(count)]
         return base, count, b"".join(rng.choice([small, wide]))
 
     def write(self, e):
@@ -458,6 +486,25 @@ def beacon_limit():
     for port, number in ((5064, 0), (5064, 1), (1023, 1)):
         table.call("datagram", 0, HOSTS[0], spelled(BEACON, 13, port, number))
         table.call("tick", 0)
+    return table.lines
+
+
+def display_reads():
+    """A client's reads with display data: six of each type, with replies that are drawn, and plain reads that are open with some of them."""
+    rng = random.Random(0)
+    table = Table(Client(b"anna", b"hall", 0, [], HOSTS[:1]), "client anna hall 0 names 127.0.0.1:5064")
+    table.call("connected", (0, 1))
+    table.call("open", Name(b"TEMP"), 0, 0)
+    table.call("hear", (0, 1), spelled(SEARCH, 5064, 0, 0xFFFFFFFF, 65536, b"\0\x0d"))
+    table.call("hear", (0, 1), spelled(RIGHTS, p1=65536, p2=3) + spelled(CREATE, DOUBLE, 3, 65536, 65536))
+    for data_type in [*range(21, 35)] * 6:
+        table.call("read_display", (0, 1), data_type, rng.randrange(4))
+        asked = [(table.core.issued[-1], data_type, *any_display(rng, data_type))]
+        if rng.random() < 0.3:
+            table.call("read", (0, 1), DOUBLE, 1)
+            asked.insert(rng.randrange(2), (table.core.issued[-1], DOUBLE, 1, any_bytes(rng, 8)))
+        replies = [spelled(READ_NOTIFY, replied, count, NORMAL, wire_of(q), b) for q, replied, count, b in asked]
+        table.call("hear", (0, 1), b"".join(replies))
     return table.lines
 
 

@@ -136,16 +136,78 @@ def value_in(data_type, count, b):
     return base, [b[front + size * i:front + size * (i + 1)] for i in range(count)], meta
 
 
+# ---- display data: (units, precision, eight limits as DOUBLEs, names of states), each as bytes but the precision
+
+NO_LIMITS = [bytes(8)] * 8
+STATE_LIMIT = 16
+
+
+def limits_in(base, count, b):
+    """The limits of an image as DOUBLEs, in its order; those that it lacks are zero."""
+    size = SIZE[base]
+    numbers = [struct.unpack([None, ">h", ">f", None, ">B", ">i", ">d"][base], b[size * i:size * (i + 1)])[0] for i in range(count)]
+    if base == DOUBLE:
+        return [b[8 * i:8 * i + 8] for i in range(count)] + NO_LIMITS[count:]
+    # Which NaN it was is lost.
+    return [struct.pack(">d", n) if n == n else b"\x7f\xf8" + bytes(6) for n in numbers] + NO_LIMITS[count:]
+
+
+def display_in(data_type, count, b):
+    """The value of an image with display data, and these: 4 if it has none, 5 if it is too short, 15 if it has too many states."""
+    if not 21 <= data_type <= 34:
+        raise Refused(4)
+    base, limits = data_type % 7, 6 if data_type < 28 else 8
+    size = [0, 8, 12, 418, 9, 8, 12][base] + (0 if base in (STRING, ENUM) else limits * SIZE[base])
+    if len(b) < 4 + size:
+        raise Refused(5)
+    data, behind = b[4:4 + size], b[4 + size:]
+    units, precision, of_limits, states = bytes(8), 0, NO_LIMITS, []
+    if base == ENUM:
+        number = struct.unpack(">H", data[:2])[0]
+        if number > STATE_LIMIT:
+            raise Refused(15)
+        states = [data[2 + 26 * i:28 + 26 * i] for i in range(number)]
+    elif base != STRING:
+        if base in (FLOAT, DOUBLE):
+            precision, data = struct.unpack(">h", data[:2])[0], data[4:]
+        units, of_limits = data[:8], limits_in(base, limits, data[8:])
+    # The value behind is that of the plain type.
+    _, elements, _ = value_in(base, count, behind)
+    return (base, elements, struct.unpack(">HH", b[:4]) + (0, 0)), (units, precision, of_limits, states)
+
+
+def display_image(data_type, elements, alarm, display):
+    """An image with display data. What it pads with, and the names that it does not have, are no zeros: nobody reads them."""
+    base, limits = data_type % 7, 6 if data_type < 28 else 8
+    units, precision, of_limits, states = display
+    front = struct.pack(">HH", *alarm)
+    if base == ENUM:
+        front += struct.pack(">H", len(states)) + (b"".join(states) + b"?" * 26 * 16)[:26 * 16]
+    elif base != STRING:
+        front += (struct.pack(">h", precision) + b"??" if base in (FLOAT, DOUBLE) else b"") + units
+        front += b"".join(of_limits[:limits]) + (b"?" if base == CHAR else b"")
+    return front + b"".join(elements)
+
+
+def display_text(display):
+    units, precision, of_limits, states = display
+    words = ["units", bytes_text(units), "precision", str(precision), "limits"] + [bytes_text(b) for b in of_limits]
+    return " ".join(words + [f"state {bytes_text(name)}" for name in states])
+
+
 def value_text(value):
     base, elements, meta = value
     text = f"{base} {len(elements)} {bytes_text(b''.join(elements))}"
     return text if meta == NO_META else text + " at " + " ".join(str(n) for n in meta)
 
 
-def outcome(data_type, count, status, payload):
+def outcome(data_type, count, status, payload, with_display=False):
     if status != NORMAL:
         return f"failed {status}"
     try:
+        if with_display:
+            value, display = display_in(data_type, count, payload)
+            return f"displayed {value_text(value)} {display_text(display)}"
         return "value " + value_text(value_in(data_type, count, payload))
     except Refused as why:
         return f"unreadable refused {why.args[0]} {NAMES[why.args[0]]}"

@@ -1,23 +1,25 @@
 -- Vocabulary: what a call answers to C, as numbers.
-use Rattle.std.specs.Prelude.{ℕ, ℤ, pos, neg_ℤ, ◌≡◌, ◌%◌, ◌/◌, ◌*◌, ◌+◌, ◌++◌, List, [], Option}
+use Rattle.std.specs.Prelude.{ℕ, ℤ, pos, neg_ℤ, ◌≡◌, ◌≢◌, ◌⊎◌, ◌%◌, ◌/◌, ◌*◌, ◌+◌, ◌++◌}
+use Rattle.std.specs.Prelude.{List, [], Option}
 use Rattle.std.specs.Prelude.{Some, None, Result, Ok, Err, drop, length, min, take}
 use Rattle.ca_arena.specs.declared.handle.Handle.{Handle}
 use Rattle.ca_text.specs.declared.refusal.Refusal.{Refusal}
 use Rattle.ca_dbr.specs.declared.data_type.DataType.{DataType}
 use Rattle.ca_dbr.specs.declared.value.Meta.{Meta}
-use Rattle.ca_dbr.specs.Display.{DisplayData}
-use Rattle.ca_dbr.specs.Elements.{Elements}
+use Rattle.ca_dbr.specs.DisplayData.{DisplayData}
+use Rattle.ca_dbr.specs.Elements.{Elements, base_of, count_of}
 use Rattle.ca_dbr.specs.Image.{Writes}
 use Rattle.ca_dbr.specs.Reading.{Reads}
-use Rattle.ca_dbr.specs.Types.{type_number}
+use Rattle.ca_dbr.specs.Types.{base_number, type_number}
+use Rattle.ca_display.specs.Image.{WritesDisplay}
 use Rattle.ca_display.specs.Reading.{ReadsDisplay}
 use Rattle.ca_display.specs.Types.{display_number}
 use Rattle.ca_display.specs.declared.display_type.DisplayType.{DisplayType}
 use Rattle.ca_text.specs.Refusal.{refusal_number}
 
--- the version of the interface: 1.3
+-- the version of the interface: 1.4
 abbrev pub version : ℕ
-version = 65539
+version = 65540
 
 -- what a call on a struct with no object answers
 abbrev pub no_object : ℤ
@@ -86,6 +88,28 @@ abbrev pub ShowsValue : (number : ℕ) → Elements → Meta → ℤ → (size_b
 ShowsValue number value meta n size_before size_after before after =
     (r : Result (Unit {0}) Refusal)
     × ((n ≡ code_of r) × CopiesValue number value meta r size_before size_after before after)
+
+-- the image of this value with its display data is copied, or refused; a message counts no more
+-- elements than these
+abbrev pub CopiesDisplay : (number : ℕ) → Elements → Meta → DisplayData → Result (Unit {0}) Refusal
+    → (size_before size_after : ℕ) → (before after : List ℕ) → Type 0
+CopiesDisplay number value meta display r size_before size_after before after =
+    (image : List ℕ)
+    × (WritesDisplay number (min (count_of value) 4294967295) value meta display [] r image
+    × ShowsImage r image size_before size_after before after)
+
+-- the same in a graphic or control type of the value's base, with the number that says which; in
+-- any other as a value without display data
+abbrev pub ShowsDisplay : (number : ℕ) → Elements → Meta → DisplayData → ℤ
+    → (size_before size_after : ℕ) → (before after : List ℕ) → Type 0
+ShowsDisplay number value meta display n size_before size_after before after =
+    let own : ℕ = base_number (base_of value) in
+    (((number ≡ own + 21) ⊎ (number ≡ own + 28))
+    × ((r : Result (Unit {0}) Refusal)
+    × ((n ≡ code_of r)
+    × CopiesDisplay number value meta display r size_before size_after before after)))
+    ⊎ ((number ≢ own + 21) × (number ≢ own + 28)
+    × ShowsValue number value meta n size_before size_after before after)
 
 -- the image is that of this value with this metadata
 abbrev pub IsImage : (number count : ℕ) → (image : List ℕ) → Elements → Meta → Type 0

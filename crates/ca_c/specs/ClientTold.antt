@@ -41,16 +41,22 @@ abbrev pub became : (of kind outcome status : ℕ) → CvzNotice
 became of kind what status =
     record { of = of; kind = kind; outcome = what; status = status; data_type = 0; count = 0 }
 
-abbrev pub outcome_notice : (of kind : ℕ) → Outcome → CvzNotice
-outcome_notice of kind (outcome.Value value meta) =
+-- what brings a value of these elements
+abbrev pub value_notice : (of kind : ℕ) → Elements → CvzNotice
+value_notice of kind e =
     record {
       of = of;
       kind = kind;
       outcome = 0;
       status = 0;
-      data_type = base_number (base_of (elements value));
-      count = count_of (elements value);
+      data_type = base_number (base_of e);
+      count = count_of e;
     }
+
+abbrev pub outcome_notice : (of kind : ℕ) → Outcome → CvzNotice
+outcome_notice of kind (outcome.Value value meta) = value_notice of kind (elements value)
+outcome_notice of kind (outcome.Displayed value meta display) =
+    value_notice of kind (elements value)
 outcome_notice of kind outcome.Done = became of kind 1 0
 outcome_notice of kind (outcome.Failed status) = became of kind 2 status.number
 outcome_notice of kind (outcome.Unreadable refusal) = became of kind 3 (refusal_number refusal)

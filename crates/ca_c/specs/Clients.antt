@@ -1,8 +1,8 @@
 -- Vocabulary: what each call of C does to a client: the contract of the call of `ClientCore` that
 -- it makes, with the number that it answers.
-use Rattle.std.specs.Prelude.{ℕ, ℤ, pos, ◌≡◌, ◌<◌, ◌≢◌, ◌⊎◌, ◌++◌, ◌+◌, Bool, List, [], ◌∷◌, Option}
-use Rattle.std.specs.Prelude.{Some, None, Result, Ok, Err, drop, if◌then◌else◌, is_some, length}
-use Rattle.std.specs.Prelude.{map, min, option_map, slice_get, take}
+use Rattle.std.specs.Prelude.{ℕ, ℤ, pos, ◌≡◌, ◌<◌, ◌≤◌, ◌≢◌, ◌⊎◌, ◌++◌, ◌+◌, Bool, List, [], ◌∷◌}
+use Rattle.std.specs.Prelude.{Option, Some, None, Result, Ok, Err, drop, if◌then◌else◌, is_some}
+use Rattle.std.specs.Prelude.{length, map, min, option_map, slice_get, take}
 use Rattle.ca_arena.specs.declared.handle.Handle.{Handle}
 use Rattle.ca_client_core.specs.Forms.{stated}
 use Rattle.ca_client_core.specs.Notices.{TakesNotice}
@@ -14,7 +14,7 @@ use Rattle.ca_client_core.specs.declared.ticking.Left.{Left}
 use Rattle.ca_dbr.specs.declared.value.Meta.{Meta}
 use Rattle.ca_dbr.specs.declared.value.Outcome.{Outcome}
 use Rattle.ca_dbr.specs.declared.value.Outcome.TheVariants as outcome
-use Rattle.ca_dbr.specs.declared.value.Value.{Value}
+use Rattle.ca_dbr.specs.Data.{data_of}
 use Rattle.ca_dbr.specs.Elements.{Elements, elements}
 use Rattle.ca_dbr.specs.Reading.{ReadRefused}
 use Rattle.ca_model.specs.Answers as answer
@@ -22,6 +22,7 @@ use Rattle.ca_model.specs.Answers.{Closing, Sending, Stepped, Ticked}
 use Rattle.ca_model.specs.ChannelState.{channel_state}
 use Rattle.ca_model.specs.Client.{Client, out_bytes}
 use Rattle.ca_model.specs.ClientCalls.{ClientClears, ClientOpens, ClientPuts, ClientReads}
+use Rattle.ca_model.specs.ClientCalls.{ClientReadsDisplay, Shape}
 use Rattle.ca_model.specs.ClientCalls.{ClientSubscribes, ClientUnsubscribes, ClientWrites}
 use Rattle.ca_model.specs.ClientCalls.{WantedCircuit, wanted}
 use Rattle.ca_model.specs.ClientEnds.{ClientBegins, ClientSetting, ClientCloses, ClientConnects}
@@ -31,8 +32,8 @@ use Rattle.ca_model.specs.Ends as ends
 use Rattle.ca_text.specs.Mask.{HasEvent}
 use Rattle.ca_text.specs.declared.refusal.Refusal.{Refusal}
 use Rattle.ca_text.specs.declared.refusal.Refusal.TheVariants as refusal
-use Rattle.ca_c.specs.Answers.{IsImage, Shows, ShowsAny, ShowsValue, Tells, code_of, handle_of}
-use Rattle.ca_c.specs.Answers.{number_of, refusal_code}
+use Rattle.ca_c.specs.Answers.{IsImage, Shows, ShowsAny, ShowsDisplay, ShowsValue, Tells, code_of}
+use Rattle.ca_c.specs.Answers.{handle_of, number_of, refusal_code}
 use Rattle.ca_c.specs.ClientTold.{c_channel, c_notice, why_number}
 use Rattle.ca_c.specs.declared.client_object.ClientObject.{ClientObject}
 use Rattle.ca_c.specs.declared.client_structs.CvzAddress.{CvzAddress}
@@ -82,11 +83,18 @@ DoesClear s n t channel =
 
 -- ---- requests and subscriptions
 
+-- a read of a type without display data, or of one with it
+abbrev pub ReadsEither : Client → Handle → Shape → Result Handle Refusal → List Sending → Client
+    → Type 0
+ReadsEither old h a r sent new =
+    ((a.data_type < 21) × ClientReads old h a r sent new)
+    ⊎ ((21 ≤ a.data_type) × ClientReadsDisplay old h a r sent new)
+
 unfoldable pub DoesRead : ClientObject → ℤ → ClientObject → (channel number count : ℕ)
     → (before after : ℕ) → Type 0
 DoesRead s n t channel number count before after =
     (r : Result Handle Refusal) × ((sent : List Sending) × ((n ≡ code_of r)
-    × ClientReads s.core (handle_of channel)
+    × ReadsEither s.core (handle_of channel)
     (record { data_type = number; count = count }) r sent t.core
     × Tells number_of r before after × KeepsRest s t))
 
@@ -218,7 +226,7 @@ abbrev pub Ticks : Result Ticked Refusal → ClientObject → ClientObject → T
 Ticks (Ok k) s t =
     (t.searches.items ≡ k.datagrams) × (t.taken ≡ 0) × (notices_of t.ended.items ≡ k.notices)
     × (lefts_of t.ended.items ≡ k.closings)
-    × (t.notices ≡ s.notices) × (t.value ≡ s.value) × (t.left ≡ s.left)
+    × (t.notices ≡ s.notices) × (t.brought ≡ s.brought) × (t.left ≡ s.left)
 Ticks (Err e) s t = KeepsRest s t
 
 unfoldable pub DoesTick : ClientObject → ℤ → ClientObject → (now : ℕ) → Type 0
@@ -248,7 +256,8 @@ DoesEnded s n t before after =
     ((k : Left)
     × ((n ≡ pos 1) × (s.ended.items ≡ t.ended.items ++ k ∷ []) × (after ≡ number_of k.circuit)
     × (t.notices ≡ Some k.notices) × (t.left ≡ k.bytes)
-    × (t.core ≡ s.core) × (t.value ≡ s.value) × (t.searches ≡ s.searches) × (t.taken ≡ s.taken)))
+    × (t.core ≡ s.core) × (t.brought ≡ s.brought) × (t.searches ≡ s.searches)
+    × (t.taken ≡ s.taken)))
     ⊎ ((n ≡ pos 0) × (s.ended.items ≡ []) × (t.ended.items ≡ []) × (after ≡ before)
     × (t ≡ record s { ended = t.ended }))
 
@@ -263,21 +272,17 @@ DoesDatagram s n t now from bytes =
 
 -- ---- notices
 
-abbrev pub outcome_value : Outcome → Option (Value × Meta)
-outcome_value (outcome.Value value meta) = Some (value, meta)
-outcome_value what = None
-
--- the value that a notice brings
-abbrev pub value_of : Notice → Option (Value × Meta)
-value_of (notice.Completed h what) = outcome_value what
-value_of (notice.Update h what) = outcome_value what
-value_of told = None
+-- what a notice brings to a request or a subscription
+abbrev pub brought_by : Notice → Option Outcome
+brought_by (notice.Completed h what) = Some what
+brought_by (notice.Update h what) = Some what
+brought_by told = None
 
 abbrev pub TellsNotice : Option Notice → List answer.Notice → ClientObject → ℤ → ClientObject
     → (before after : CvzNotice) → Type 0
 TellsNotice (Some told) rest s n t before after =
     (n ≡ pos 1) × (after ≡ c_notice told)
-    × (t ≡ record s { notices = Some rest; value = value_of told })
+    × (t ≡ record s { notices = Some rest; brought = brought_by told })
 TellsNotice None rest s n t before after =
     (n ≡ pos 0) × (after ≡ before) × (t ≡ record s { notices = Some rest })
 
@@ -294,17 +299,20 @@ unfoldable pub DoesNext : ClientObject → ℤ → ClientObject → (before afte
 DoesNext s n t before after = NextOf s.notices s n t before after
 
 -- the image of the value that a notice brought, if it brought one
-abbrev pub ImageOf : Option (Value × Meta) → ℤ → (number : ℕ) → (size_before size_after : ℕ)
+abbrev pub ImageOf : Option Outcome → ℤ → (number : ℕ) → (size_before size_after : ℕ)
     → (before after : List ℕ) → Type 0
-ImageOf (Some v) n number size_before size_after before after =
-    ShowsValue number (elements v.0) v.1 n size_before size_after before after
-ImageOf None n number size_before size_after before after =
+ImageOf (Some (outcome.Value value meta)) n number size_before size_after before after =
+    ShowsValue number (elements value) meta n size_before size_after before after
+ImageOf (Some (outcome.Displayed value meta d)) n number size_before size_after before after =
+    ShowsDisplay number (elements value) meta (data_of d.value) n size_before size_after before
+    after
+ImageOf brought n number size_before size_after before after =
     (n ≡ refusal_code refusal.BadType) × (size_after ≡ size_before) × (after ≡ before)
 
 unfoldable pub DoesValue : ClientObject → ℤ → ClientObject → (number : ℕ)
     → (size_before size_after : ℕ) → (before after : List ℕ) → Type 0
 DoesValue s n t number size_before size_after before after =
-    ImageOf s.value n number size_before size_after before after × (t ≡ s)
+    ImageOf s.brought n number size_before size_after before after × (t ≡ s)
 
 -- ---- a client begins
 
@@ -325,7 +333,7 @@ setting_of user host servers names now =
 -- a client that began so, of which nothing waits for C
 abbrev pub IsBegun : ClientSetting → ClientObject → Type 0
 IsBegun a s =
-    ClientBegins a (Ok s.core) × (s.notices ≡ None) × (s.value ≡ None) × (s.left ≡ [])
+    ClientBegins a (Ok s.core) × (s.notices ≡ None) × (s.brought ≡ None) × (s.left ≡ [])
     × (s.searches.items ≡ []) × (s.taken ≡ 0) × (s.ended.items ≡ [])
 
 -- why none began

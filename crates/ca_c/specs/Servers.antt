@@ -5,7 +5,7 @@ use Rattle.std.specs.Prelude.{[], Option, Some, None, Result, Ok, Err, drop, ifâ
 use Rattle.std.specs.Prelude.{length, map, min, option_map, slice_get, take}
 use Rattle.ca_arena.specs.declared.handle.Handle.{Handle}
 use Rattle.ca_dbr.specs.declared.value.Meta.{Meta}
-use Rattle.ca_dbr.specs.Display.{DisplayData}
+use Rattle.ca_dbr.specs.DisplayData.{DisplayData}
 use Rattle.ca_dbr.specs.Elements.{Elements, base_of, count_of, displayed}
 use Rattle.ca_dbr.specs.Held.{bare, displayed_by}
 use Rattle.ca_dbr.specs.Reading.{ReadRefused}

@@ -1,17 +1,22 @@
 //! What a call answers, as numbers: 0 or a refusal, and a handle.
 
 ghost use Rattle.std.specs.Prelude.{◌≡◌, ◌≤◌, ◌++◌, drop, length, min, take};
+ghost use Rattle.ca_dbr.specs.Data.{data_of};
 ghost use Rattle.ca_dbr.specs.Elements.{elements};
-ghost use Rattle.ca_c.specs.Answers.{CopiesValue, ShowsAll, ShowsValue, code_of, handle_of};
-ghost use Rattle.ca_c.specs.Answers.{number_of, refusal_code};
+ghost use Rattle.ca_c.specs.Answers.{CopiesDisplay, CopiesValue, ShowsAll, ShowsDisplay};
+ghost use Rattle.ca_c.specs.Answers.{ShowsValue, code_of, handle_of, number_of, refusal_code};
 
 use ca_arena::Handle;
-use ca_dbr::{Meta, Value, write_value};
+use ca_dbr::{Display, Meta, Value, write_value};
+use ca_display::write_display;
 use ca_text::Refusal;
 use std::alloc::Global;
 
 /// The struct has no object.
 pub(crate) const NO_OBJECT: i32 = -100;
+
+/// The first type with display data.
+pub(crate) const FIRST_DISPLAY: u16 = 21;
 
 /// The number of a refusal, below zero.
 pub(crate) fn refused(refusal: Refusal) -> i32
@@ -97,6 +102,49 @@ pub(crate) fn copied_value(
 {
     let mut image = Vec::new(alloc);
     write_value(data_type, value, meta, &mut image)?;
+    *size = copied(image.as_slice(), room);
+    Ok(())
+}
+
+/// Copies the image of a value with display data in this type, as `shown`. A type with display data
+/// is to be of the value's base.
+pub(crate) fn displayed(
+    alloc: Global,
+    data_type: u16,
+    value: &Value,
+    meta: &Meta,
+    display: &Display,
+    room: &mut [u8],
+    size: &mut usize,
+) -> i32
+    ensures { ShowsDisplay data_type (elements value.now) meta.now (data_of display.now) result
+        size.old size.new room.old room.new }
+{
+    let own = value.base_type().number();
+    if data_type == own + 21 || data_type == own + 28 {
+        code(copied_display(alloc, data_type, value, meta, display, room, size))
+    } else {
+        shown(alloc, data_type, value, meta, room, size)
+    }
+}
+
+// Copies the image of a value with its display data. Refused as `write_display`.
+fn copied_display(
+    alloc: Global,
+    data_type: u16,
+    value: &Value,
+    meta: &Meta,
+    display: &Display,
+    room: &mut [u8],
+    size: &mut usize,
+) -> Result<(), Refusal>
+    ensures { CopiesDisplay data_type (elements value.now) meta.now (data_of display.now) result
+        size.old size.new room.old room.new }
+{
+    // A message counts no more.
+    let count = value.count().min(4294967295) as u32;
+    let mut image = Vec::new(alloc);
+    write_display(data_type, count, value, meta, display, &mut image)?;
     *size = copied(image.as_slice(), room);
     Ok(())
 }

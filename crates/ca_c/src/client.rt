@@ -65,7 +65,7 @@ fn begun(
     let object = ClientObject {
         core,
         notices: None,
-        value: None,
+        brought: None,
         left: Pipe::new(alloc),
         searches: Vec::new(alloc),
         taken: 0,

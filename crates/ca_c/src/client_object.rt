@@ -6,9 +6,9 @@ ghost use Rattle.ca_c.specs.Clients.{DoesChannel, DoesClear, DoesClose, DoesConn
 ghost use Rattle.ca_c.specs.Clients.{DoesDatagram, DoesEnded, DoesGive, DoesLeft, DoesNext};
 ghost use Rattle.ca_c.specs.Clients.{DoesOpen, DoesOutput, DoesPut, DoesRead, DoesSearch, DoesSent};
 ghost use Rattle.ca_c.specs.Clients.{DoesStep, DoesSubscribe, DoesTick, DoesUnsubscribe, DoesValue};
-ghost use Rattle.ca_c.specs.Clients.{DoesWanted, DoesWrite, outcome_value, value_of, c_wanted};
+ghost use Rattle.ca_c.specs.Clients.{DoesWanted, DoesWrite, brought_by, c_wanted};
 
-use crate::answers::{code, filled, handle, number, refused, shown};
+use crate::answers::{FIRST_DISPLAY, code, displayed, filled, handle, number, refused, shown};
 use crate::client_structs::{
     CvzAddress, CvzChannel, CvzNotice, CvzWanted, address, c_channel, c_notice, why_number,
 };
@@ -16,7 +16,7 @@ use ca_arena::Handle;
 use ca_client_core::{
     AddressedDatagram, ClientCore, Closing, Left, Notice, Notices, Stepped, WantedCircuit,
 };
-use ca_dbr::{Meta, Outcome, Value, read_value};
+use ca_dbr::{Outcome, read_value};
 use ca_text::{Mask, Refusal};
 use ca_wire::Pipe;
 use std::alloc::Global;
@@ -27,8 +27,8 @@ pub struct ClientObject {
     pub core: ClientCore,
     /// What the last call reported that reports.
     pub notices: Option<Notices>,
-    /// The value of the notice that was taken last.
-    pub value: Option<(Value, Meta)>,
+    /// What the notice that was taken last brought.
+    pub brought: Option<Outcome>,
     /// What is left to be sent on the circuit that was told closed last.
     pub left: Pipe,
     /// The searches of the last tick, and how many of them C has taken.
@@ -82,7 +82,11 @@ impl ClientObject {
         ensures { DoesRead self.old result self.new channel data_type count
             request.old request.new }
     {
-        given(self.core.read(handle(channel), data_type, count), request)
+        let channel = handle(channel);
+        if data_type < FIRST_DISPLAY {
+            return given(self.core.read(channel, data_type, count), request);
+        }
+        given(self.core.read_display(channel, data_type, count), request)
     }
 
     #[tactic(auto, unfolding(crate::specs::Clients::DoesWrite))]
@@ -307,7 +311,7 @@ impl ClientObject {
             return 0;
         };
         *told = c_notice(&notice);
-        self.value = value_of(notice);
+        self.brought = brought_by(notice);
         1
     }
 
@@ -321,10 +325,15 @@ impl ClientObject {
     ) -> i32
         ensures { DoesValue self.now result self.now data_type size.old size.new room.old room.new }
     {
-        let Some((value, meta)) = &self.value else {
-            return refused(Refusal::BadType);
-        };
-        shown(alloc, data_type, value, meta, room, size)
+        match &self.brought {
+            Some(Outcome::Value(value, meta)) => {
+                shown(alloc, data_type, value, meta, room, size)
+            }
+            Some(Outcome::Displayed(value, meta, display)) => {
+                displayed(alloc, data_type, value, meta, display, room, size)
+            }
+            _ => refused(Refusal::BadType),
+        }
     }
 }
 
@@ -354,22 +363,13 @@ fn c_wanted(found: &WantedCircuit) -> CvzWanted
     }
 }
 
-/// The value that a notice brought.
-fn value_of(notice: Notice) -> Option<(Value, Meta)>
-    ensures { result ≡ value_of notice }
+/// What a notice brought to a request or a subscription.
+fn brought_by(notice: Notice) -> Option<Outcome>
+    ensures { result ≡ brought_by notice }
 {
     match notice {
-        Notice::Completed(_, outcome) => outcome_value(outcome),
-        Notice::Update(_, outcome) => outcome_value(outcome),
-        _ => None,
-    }
-}
-
-fn outcome_value(outcome: Outcome) -> Option<(Value, Meta)>
-    ensures { result ≡ outcome_value outcome }
-{
-    match outcome {
-        Outcome::Value(value, meta) => Some((value, meta)),
+        Notice::Completed(_, outcome) => Some(outcome),
+        Notice::Update(_, outcome) => Some(outcome),
         _ => None,
     }
 }

@@ -1,11 +1,10 @@
 //! What crosses of a client: plain structs of numbers.
 
 ghost use Rattle.std.specs.Prelude.{◌≡◌};
-ghost use Rattle.ca_dbr.specs.Elements.{base_of, count_of, elements};
-ghost use Rattle.ca_dbr.specs.Types.{base_number};
+ghost use Rattle.ca_dbr.specs.Elements.{elements};
 ghost use Rattle.ca_client_tables.specs.Closings.{why_is};
 ghost use Rattle.ca_c.specs.ClientTold.{became, c_channel, c_notice, outcome_notice, standing};
-ghost use Rattle.ca_c.specs.ClientTold.{why_number};
+ghost use Rattle.ca_c.specs.ClientTold.{value_notice, why_number};
 
 use crate::answers::number;
 use ca_client_core::{Address, ChannelState, Notice, Why};
@@ -130,6 +129,7 @@ fn outcome_notice(of: u64, kind: u32, outcome: &Outcome) -> CvzNotice
 {
     match outcome {
         Outcome::Value(value, _) => value_notice(of, kind, value),
+        Outcome::Displayed(value, _, _) => value_notice(of, kind, value),
         Outcome::Done => became(of, kind, 1, 0),
         Outcome::Failed(status) => became(of, kind, 2, status.number),
         Outcome::Unreadable(refusal) => became(of, kind, 3, refusal.number() as u32),
@@ -138,14 +138,7 @@ fn outcome_notice(of: u64, kind: u32, outcome: &Outcome) -> CvzNotice
 }
 
 fn value_notice(of: u64, kind: u32, value: &Value) -> CvzNotice
-    ensures { result ≡ record {
-      of = of;
-      kind = kind;
-      outcome = 0;
-      status = 0;
-      data_type = base_number (base_of (elements value.now));
-      count = count_of (elements value.now);
-    } }
+    ensures { result ≡ value_notice of kind (elements value.now) }
 {
     CvzNotice {
         of,

@@ -4,7 +4,7 @@ ghost use Rattle.std.specs.Prelude.{◌≡◌, ◌<◌, ◌≤◌, IfErr, IfOk};
 ghost use Rattle.std.specs.Arc.{arc_value};
 ghost use Rattle.ca_dbr.specs.declared.value.Meta.{Meta};
 ghost use Rattle.ca_dbr.specs.Elements.{count_of, elements};
-ghost use Rattle.ca_display.specs.Data.{data_of};
+ghost use Rattle.ca_dbr.specs.Data.{data_of};
 ghost use Rattle.ca_display.specs.Reading.{DisplayRefused};
 ghost use Rattle.ca_c.specs.Answers.{IsDisplayImage};
 ghost use Rattle.ca_c.specs.Servers.{AddsDisplayed, AddsPlain};
@@ -14,19 +14,18 @@ ghost use Rattle.ca_c.specs.Servers.{DoesGive, DoesHost, DoesLeft, DoesName, Doe
 ghost use Rattle.ca_c.specs.Servers.{DoesPump, DoesRemove, DoesSent, DoesSetDisplay, DoesStamp};
 ghost use Rattle.ca_c.specs.Servers.{DoesStep, DoesUser, DoesValue, DoesWaiting};
 
-use crate::answers::{code, copied, copied_value, filled, handle, number, refused, shown};
+use crate::answers::{
+    FIRST_DISPLAY, code, copied, copied_value, filled, handle, number, refused, shown,
+};
 use crate::step::{CvzStep, c_step, step_number};
-use ca_dbr::{Meta, Value, read_value};
-use ca_display::{Display, read_display};
+use ca_dbr::{Display, Meta, Value, read_value};
+use ca_display::read_display;
 use ca_records::Record;
 use ca_server_core::{CoreStep, ServerCore};
 use ca_text::Refusal;
 use ca_wire::{Pipe, Sid};
 use std::alloc::{AllocError, Global};
 use std::sync::Arc;
-
-// The first type with display data.
-const FIRST_DISPLAY: u16 = 21;
 
 /// A server's core, with what C may take of its last calls.
 #[derive(Drop)]

@@ -8,5 +8,5 @@ ghost use Rattle.ca_c.specs.Answers.{version};
 pub extern "C" fn cvz_version() -> u32
     ensures { result ≡ version }
 {
-    65539
+    65540
 }

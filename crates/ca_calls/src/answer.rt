@@ -1,7 +1,7 @@
 //! Answers as text: how each thing that a core returns is written in a line.
 use ca_arena::Handle;
 use ca_client_core::{Address, Notice, Notices};
-use ca_dbr::{Meta, Outcome, Value, write_value};
+use ca_dbr::{Display, Meta, Outcome, Value, write_value};
 use ca_text::{Refusal, Status};
 use std::alloc::Global;
 use std::net::Ipv4Addr;
@@ -122,11 +122,35 @@ impl AnswerText {
         self.number(u64::from(meta.nanos))
     }
 
+    // Display data: units, precision, the limits in the order of an image, each as the bit pattern
+    // of a DOUBLE, and each name of a state after a word of its own. All bytes are written.
+    fn display(&mut self, display: &Display) -> Result<(), Refusal> {
+        self.word("units")?;
+        self.bytes(&display.units)?;
+        self.word("precision")?;
+        let precision = display.precision;
+        self.word(format!(in self.alloc; "{precision}")?.as_str())?;
+        self.word("limits")?;
+        for limit in display.limits.in_order() {
+            self.bytes(&limit.to_be_bytes())?;
+        }
+        for name in &display.states {
+            self.word("state")?;
+            self.bytes(name)?;
+        }
+        Ok(())
+    }
+
     fn outcome(&mut self, outcome: &Outcome) -> Result<(), Refusal> {
         match outcome {
             Outcome::Value(value, meta) => {
                 self.word("value")?;
                 self.value(value, meta)
+            }
+            Outcome::Displayed(value, meta, display) => {
+                self.word("displayed")?;
+                self.value(value, meta)?;
+                self.display(display)
             }
             Outcome::Done => self.word("done"),
             Outcome::Failed(status) => {

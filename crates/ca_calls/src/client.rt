@@ -34,6 +34,7 @@ pub fn call(
         b"open" => open(core, words, answer),
         b"state" => state(core, words, answer),
         b"read" => read(core, words, answer),
+        b"read_display" => read_display(core, words, answer),
         b"write" => write(alloc, core, words),
         b"write_notify" => write_notify(alloc, core, words, answer),
         b"subscribe" => subscribe(core, words, answer),
@@ -112,6 +113,17 @@ fn read(
     let channel = words.handle()?;
     let data_type = words.number16()?;
     answer.handle(core.read(channel, data_type, words.count()?)?)
+}
+
+/// `read_display CHANNEL TYPE COUNT`.
+fn read_display(
+    core: &mut ClientCore,
+    mut words: Words<'_>,
+    answer: &mut AnswerText,
+) -> Result<(), Refusal> {
+    let channel = words.handle()?;
+    let data_type = words.number16()?;
+    answer.handle(core.read_display(channel, data_type, words.count()?)?)
 }
 
 /// `write CHANNEL TYPE COUNT BYTES`.

@@ -108,7 +108,7 @@ module _ (c : Handle) (x : Client) (l : IsListed x) where
   told-reply m e None at is = idle [] [] e is refl
   told-reply m e (Some (q, r)) at is = go r.stage refl is
     where
-      go : (s : request.Stage) → r.stage ≡ s → Completes x m q s e → Told x e.notices e.core
+      go : (s : request.Stage) → r.stage ≡ s → Completes x m q r.asked s e → Told x e.notices e.core
       go request.Open stage does =
           told-doing x (without_request q x) [] (Completed q does.0 ∷ []) e does.2 (done q r does.0 (answered-there c m.command m.p2 x.requests q r at) stage)
       go request.Draining stage does = told-doing x (without_request q x) [] [] e does (gone q)

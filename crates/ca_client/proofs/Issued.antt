@@ -1,5 +1,5 @@
 -- The state under the lock, as requests are issued and refused.
-use Rattle.std.proofs.Common.{◌≡◌, ℕ, ◌<◌, List, [], ◌∷◌, Ok, Err, refl, sym, ap, ◌∙◌, subst, inl, inr}
+use Rattle.std.proofs.Common.{◌≡◌, ℕ, ◌<◌, List, [], ◌∷◌, Option, Ok, Err, refl, sym, ap, ◌∙◌, subst, inl, inr}
 use Rattle.std.specs.Prelude.{IsErrAnd, Result, slice_set}
 use Rattle.std.proofs.Math.ListN.{length-set}
 use Rattle.atomic_table.specs.Seated.{TableId}
@@ -17,7 +17,7 @@ use Rattle.ca_requests.specs.Requests.{Asked}
 use Rattle.ca_requests.specs.Requests as requests
 use Rattle.ca_model.specs.Answers.{Sending}
 use Rattle.ca_model.specs.Client.{Client, sending}
-use Rattle.ca_model.specs.ClientCalls.{ClientPuts, ClientReads, IsLive, LiveChannel, Shape, issued, put_sent, read_sent}
+use Rattle.ca_model.specs.ClientCalls.{ClientPuts, IsLive, LiveChannel, ReadsUnless, Shape, display_fault, issued, put_sent, read_fault, read_sent}
 use Rattle.ca_model.specs.Placed.{IsPlaced}
 use Rattle.ca_model.proofs.Changes.{placed-issued}
 use Rattle.ca_model.proofs.Placed.{keeps-sending}
@@ -42,16 +42,17 @@ state-refused x v mid armed w board ts t s o e new back = record {
   awaited = awaited_refused v mid armed w ts (Waits x) t s.awaited o e new back;
 }
 
-reads-refused : (x : Client) (h : Handle) (a : Shape) (e : Refusal) (sent : List Sending) (y : Client) → ClientReads x h a (Err e) sent y → y ≡ x
-reads-refused x h a refusal.OutOfMemory sent y f = f.1.1
-reads-refused x h a e sent y f = f.1.1
+reads-refused : (fault : Option Refusal) (x : Client) (h : Handle) (a : Shape) (e : Refusal) (sent : List Sending) (y : Client) → ReadsUnless fault x h a (Err e) sent y → y ≡ x
+reads-refused fault x h a refusal.OutOfMemory sent y f = f.1.1
+reads-refused fault x h a e sent y f = f.1.1
 
 puts-refused : (x : Client) (h : Handle) (a : Elements) (e : Refusal) (sent : List Sending) (y : Client) → ClientPuts x h a (Err e) sent y → y ≡ x
 puts-refused x h a refusal.OutOfMemory sent y f = f.1.1
 puts-refused x h a e sent y f = f.1.1
 
 pub issued-refused : (x : Client) (asked : RequestCall) (e : Refusal) (y : Client) → HasIssued x asked (Err e) y → y ≡ x
-issued-refused x (request.Read h data_type count) e y f = reads-refused x h (record { data_type = data_type; count = count }) e f.0 y f.1
+issued-refused x (request.Read h data_type count) e y f = (let a : Shape = record { data_type = data_type; count = count } in reads-refused (read_fault x h a) x h a e f.0 y f.1)
+issued-refused x (request.ReadDisplay h data_type count) e y f = (let a : Shape = record { data_type = data_type; count = count } in reads-refused (display_fault x h a) x h a e f.0 y f.1)
 issued-refused x (request.Put h value) e y f = puts-refused x h (elements value) e f.0 y f.1
 
 -- A request was issued on a live channel, and its message waits.
@@ -64,18 +65,20 @@ record Issued (x : Client) (q : Handle) (y : Client) : Type 0 where
   sent : List Sending
   new : y ≡ sending sent (issued channel live asked q x)
 
+read-so : (fault : Option Refusal) (x : Client) (h : Handle) (a : Shape) (q : Handle) (sent : List Sending) (y : Client) → ReadsUnless fault x h a (Ok q) sent y → Issued x q y
+read-so fault x h a q sent y f = record {
+  channel = h;
+  live = f.0;
+  asked = requests.Read a.data_type a.count;
+  is_live = f.1;
+  may = f.3;
+  sent = read_sent h f.0 a q ∷ [];
+  new = f.4.1;
+}
+
 issued-so : (x : Client) (asked : RequestCall) (q : Handle) (y : Client) → HasIssued x asked (Ok q) y → Issued x q y
-issued-so x (request.Read h data_type count) q y f =
-    let a : Shape = record { data_type = data_type; count = count } in
-    record {
-      channel = h;
-      live = f.1.0;
-      asked = requests.Read data_type count;
-      is_live = f.1.1;
-      may = f.1.3;
-      sent = read_sent h f.1.0 a q ∷ [];
-      new = f.1.4.1;
-    }
+issued-so x (request.Read h data_type count) q y f = (let a : Shape = record { data_type = data_type; count = count } in read-so (read_fault x h a) x h a q f.0 y f.1)
+issued-so x (request.ReadDisplay h data_type count) q y f = (let a : Shape = record { data_type = data_type; count = count } in read-so (display_fault x h a) x h a q f.0 y f.1)
 issued-so x (request.Put h value) q y f = record {
   channel = h;
   live = f.1.0;

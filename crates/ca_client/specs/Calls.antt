@@ -13,7 +13,7 @@ use Rattle.ca_dbr.specs.Elements.{elements}
 use Rattle.ca_model.specs.Answers.{Closing, Notice, Sending}
 use Rattle.ca_model.specs.Answers as core
 use Rattle.ca_model.specs.Client.{Client}
-use Rattle.ca_model.specs.ClientCalls.{ClientClears, ClientPuts, ClientReads}
+use Rattle.ca_model.specs.ClientCalls.{ClientClears, ClientPuts, ClientReads, ClientReadsDisplay}
 use Rattle.ca_model.specs.ClientEnds.{ClientBegins, ClientCloses, ClientConnects, ClientCuts}
 use Rattle.ca_model.specs.ClientEnds.{ClientSetting, ClientSteps, ClientTicks}
 use Rattle.ca_client.specs.declared.ask.CoreCall.{CoreCall}
@@ -59,6 +59,9 @@ abbrev pub HasIssued : Client → RequestCall → Result Handle Refusal → Clie
 HasIssued old (request.Read h data_type count) result new =
     (sent : List Sending)
     × ClientReads old h (record { data_type = data_type; count = count }) result sent new
+HasIssued old (request.ReadDisplay h data_type count) result new =
+    (sent : List Sending)
+    × ClientReadsDisplay old h (record { data_type = data_type; count = count }) result sent new
 HasIssued old (request.Put h value) result new =
     (sent : List Sending) × ClientPuts old h (elements value) result sent new
 

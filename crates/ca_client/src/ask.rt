@@ -8,6 +8,9 @@ pub enum RequestCall {
     /// The value of this channel, as this type from 0 to 20 and with this many elements; a count of
     /// 0 asks for those that there are.
     Read(Handle, u16, u32),
+    /// The value of this channel with display data, as this type from 21 to 34 and with this many
+    /// elements; a count of 0 asks for those that there are.
+    ReadDisplay(Handle, u16, u32),
     /// To write this value to this channel.
     Put(Handle, Value),
 }

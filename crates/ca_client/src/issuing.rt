@@ -77,6 +77,9 @@ fn issue(core: &mut ClientCore, request: &RequestCall) -> Result<Handle, Refusal
 {
     match request {
         RequestCall::Read(channel, data_type, count) => core.read(*channel, *data_type, *count),
+        RequestCall::ReadDisplay(channel, data_type, count) => {
+            core.read_display(*channel, *data_type, *count)
+        }
         RequestCall::Put(channel, value) => core.write_notify(*channel, value),
     }
 }

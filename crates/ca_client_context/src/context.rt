@@ -167,6 +167,23 @@ impl<L: Listener> Context<L> {
         self.issue(rt, None, &RequestCall::Read(channel, data_type, count))
     }
 
+    /// Asks for the value of a channel with display data: units, precision, limits and the names of
+    /// states, as the type has them. Refused as NoCell if too many requests are in flight, and then
+    /// as `ClientCore::read_display`. It goes out as with `get`.
+    pub fn get_display<R: Wait>(
+        &self,
+        rt: &R,
+        channel: Handle,
+        data_type: u16,
+        count: u32,
+    ) -> Result<Ticket, Refusal> {
+        self.issue(
+            rt,
+            None,
+            &RequestCall::ReadDisplay(channel, data_type, count),
+        )
+    }
+
     /// Asks for the value of a channel as `get`, into the memory of a value that is no longer used.
     pub fn get_into<R: Wait>(
         &self,

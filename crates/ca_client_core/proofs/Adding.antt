@@ -1,5 +1,5 @@
 -- A subscription begins, with its message.
-use Rattle.std.proofs.Common.{◌≡◌, ◌∙◌, ℕ, Bool, true, false, List, [], ◌∷◌, Some, None, Result, Ok, Err, ap, length, refl, subst}
+use Rattle.std.proofs.Common.{◌≡◌, ◌∙◌, ℕ, Bool, true, false, List, [], ◌∷◌, Some, None, Result, Ok, Err, ap, is_none, length, refl, subst}
 use Rattle.std.specs.declared.alloc.AllocError.{AllocError}
 use Rattle.ca_text.specs.declared.refusal.Refusal.{Refusal}
 use Rattle.ca_text.specs.declared.refusal.Refusal.TheVariants as refusal
@@ -11,6 +11,7 @@ use Rattle.ca_wire.specs.Fields.{Fields}
 use Rattle.ca_model.specs.Answers.{Sending}
 use Rattle.ca_model.specs.Client.{Client, out_bytes, standing_at}
 use Rattle.ca_model.specs.ClientCalls.{ClientSubscribes, IsLive, LiveChannel, Shape, ask_fault, event_add_sent, new_subscription, subscribe_fault}
+use Rattle.ca_model.specs.Images.{type_of}
 use Rattle.ca_client_core.specs.Asks.{AddsOr, Subscribes, with_subscription}
 use Rattle.ca_client_tables.specs.Ends.{cut_back, with_message}
 use Rattle.ca_client_core.proofs.Faults.{earlier-fault, last-fault}
@@ -22,13 +23,13 @@ subscribes-or x y z n s c d m (Ok u) all is did =
 subscribes-or x y z n s c d m (Err e) all is did = did ∙ ap (cut_back c n) is ∙ cut-queued x c m n all
 
 pub subscribes-not : (x : Client) (h : Handle) (a : Shape) (mask : ℕ) (e : Refusal) → ask_fault x false h a ≡ Some e → (sent : List Sending) × ClientSubscribes x h a mask (Err e) sent x
-subscribes-not x h a mask refusal.OutOfMemory is = absurd (ask-memory x false h a is)
+subscribes-not x h a mask refusal.OutOfMemory is = absurd (ask-memory (is_none (type_of a.data_type)) x false h a is)
 subscribes-not x h a mask e is =
-    ([], (earlier-fault (asks x a) refusal.ArenaFull e (is_full x.subscriptions) (standing_at x h) is, (refl, refl)))
+    ([], (earlier-fault (asks (is_none (type_of a.data_type)) x a) refusal.ArenaFull e (is_full x.subscriptions) (standing_at x h) is, (refl, refl)))
 
 pub subscribes-full : (x : Client) (h : Handle) (a : Shape) (mask : ℕ) (l : LiveChannel) → IsLive x h l → ask_fault x false h a ≡ None → is_full x.subscriptions ≡ true → (sent : List Sending) × ClientSubscribes x h a mask (Err refusal.ArenaFull) sent x
 subscribes-full x h a mask l live none full =
-    ([], (ap (λ (b : Bool). ask_fault x b h a) full ∙ last-fault (asks x a) refusal.ArenaFull (standing_at x h) l live none, (refl, refl)))
+    ([], (ap (λ (b : Bool). ask_fault x b h a) full ∙ last-fault (asks (is_none (type_of a.data_type)) x a) refusal.ArenaFull (standing_at x h) l live none, (refl, refl)))
 
 -- it may go out
 may-subscribe : (x : Client) (h : Handle) (a : Shape) (s : Handle) → ask_fault x false h a ≡ None → MayGive x.subscriptions s → subscribe_fault x h a ≡ None

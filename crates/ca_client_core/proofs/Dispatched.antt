@@ -1,7 +1,7 @@
 -- What is made of a message, by its command.
-use Rattle.std.proofs.Common.{◌≡◌, ◌≢◌, ◌∙◌, ℕ, ◌<◌, ◌^◌, ◌==◌, true, false, inl, inr, Global, Vec, List, [], ◌∷◌, Option, Some, None, Result, Ok, Err, refl, subst, sym}
+use Rattle.std.proofs.Common.{◌≡◌, ◌≢◌, ◌∙◌, ℕ, ◌<◌, ◌^◌, ◌==◌, Bool, true, false, inl, inr, Global, Vec, List, [], ◌∷◌, Option, Some, None, Result, Ok, Err, refl, subst, sym}
 use Rattle.std.specs.List.{list_any}
-use Rattle.std.specs.Prelude.{IsErr}
+use Rattle.std.specs.Prelude.{IsErr, nat_lt}
 use Rattle.std.specs.declared.alloc.AllocError.{AllocError}
 use Rattle.std.proofs.lemmas.Bool.{ne_eqb}
 use Rattle.ca_text.specs.Command.{command_number}
@@ -12,8 +12,9 @@ use Rattle.ca_dbr.specs.Octets.{AreBytes}
 use Rattle.ca_dbr.specs.declared.value.Outcome.{Outcome}
 use Rattle.ca_ids.specs.Table.{under}
 use Rattle.ca_wire.specs.Fields.{Fields}
-use Rattle.ca_requests.specs.Meaning.{Means}
-use Rattle.ca_requests.specs.Requests.{Request, Stage, answered_by}
+use Rattle.ca_requests.specs.Calls as requests
+use Rattle.ca_requests.specs.Meaning.{MeansTo, ReadMeans}
+use Rattle.ca_requests.specs.Requests.{Asked, Request, Stage, answered_by}
 use Rattle.ca_requests.specs.Requests as request
 use Rattle.ca_model.specs.Answers as notice
 use Rattle.ca_model.specs.Client.{Client, ClientCircuit}
@@ -32,7 +33,8 @@ use Rattle.ca_client_core.specs.Dispatch.{HearsFirst, HearsFirstReply, HearsOr, 
 use Rattle.ca_client_core.specs.First.{FirstOn, first_on, without_first}
 use Rattle.ca_client_core.specs.Hearing.{FindsOr, HasEffect, HearsReplyTo}
 use Rattle.ca_client_core.proofs.Firsts.{first-bytes, first-count}
-use Rattle.ca_client_core.proofs.Outcomes.{image-means, status-means}
+use Rattle.ca_client_core.proofs.Displays.{display-means}
+use Rattle.ca_client_core.proofs.Outcomes.{image-means}
 
 -- ---- a message of none of the commands that a client understands
 
@@ -64,13 +66,13 @@ of-other _ a b d f g h i j e r = refl
 -- ---- what a value means
 
 -- what a reply means to the request that it is about
-reply-means : {Y : Type 0} (w : Vec Y Global) (m : Fields) → IsReply m.command → m.count < 2 ^ 32 → AreBytes m.payload → (o : Outcome) × Means m o
-reply-means w m (inl read) few are =
-    let o = image-means w m few are in
-    (o.0, inl (inl read, o.1))
-reply-means w m (inr written) few are =
-    let o = status-means m in
-    (o.0, inr (inl (written, o.1)))
+reply-means : {Y : Type 0} (w : Vec Y Global) (a : Asked) (m : Fields) → requests.TakesMemory a m → m.count < 2 ^ 32 → AreBytes m.payload → (o : Outcome) × MeansTo a m o
+reply-means w (request.Read data_type count) m (is, takes) few are = by (nat_lt 20 data_type)
+  where
+    by : (b : Bool) → (o : Outcome) × (Is command.ReadNotify m × ReadMeans b m o)
+    by true = (let o = display-means w m few are in (o.0, (is, o.1)))
+    by false = (let o = image-means w m few are in (o.0, (is, o.1)))
+reply-means w request.Put m takes few are = absurd takes
 
 updates : {Y : Type 0} (w : Vec Y Global) (x : Client) (m : Fields) → Is command.EventAdd m → m.payload ≢ [] → m.count < 2 ^ 32 → AreBytes m.payload → (s : Option Handle) → (e : Effect) × Updates x m s e
 updates w x m is some few are None = (becomes x, refl)
@@ -122,13 +124,13 @@ created-header_only x c h p (Some (q, phase.Clearing)) = refl
 created-header_only x c h p (Some (q, phase.Doomed)) = refl
 
 -- there was no memory for the value of a reply
-out-for : {Y : Type 0} (w : Vec Y Global) (x : Client) (m : Fields) (about : Option (Handle × Request)) (u : AllocError) (new : Client) → IsReply m.command → m.count < 2 ^ 32 → AreBytes m.payload → HearsReplyTo x m about (Err u) new → (y : Client) → (e : Effect) × Answers y m about e × TakesMemory x m e × (new ≡ x)
-out-for w x m None u new is few are did y = absurd did
-out-for w x m (Some (q, r)) u new is few are (stage, image, same) y =
-    let o = reply-means w m is few are in
+out-for : {Y : Type 0} (w : Vec Y Global) (x : Client) (m : Fields) (about : Option (Handle × Request)) (u : AllocError) (new : Client) → m.count < 2 ^ 32 → AreBytes m.payload → HearsReplyTo x m about (Err u) new → (y : Client) → (e : Effect) × Answers y m about e × TakesMemory x m e × (new ≡ x)
+out-for w x m None u new few are did y = absurd did
+out-for w x m (Some (q, r)) u new few are (stage, takes, same) y =
+    let o = reply-means w r.asked m takes few are in
     let e : Effect = doing [] (notice.Completed q o.0 ∷ []) (without_request q y) in
     let tells : e.notices ≢ [] = λ none. absurd cc in
-    (e, subst (λ (s : Stage). Completes y m q s e) (sym stage) (o.0, o.1, refl), inr (inr (inl tells)), same)
+    (e, subst (λ (s : Stage). Completes y m q r.asked s e) (sym stage) (o.0, o.1, refl), inr (inr (inl tells)), same)
 
 pub reply-out : {Y : Type 0} (w : Vec Y Global) (x : Client) (c : Handle) (head : Head) (u : AllocError) (r : Result (List notice.Notice) AllocError) (new : Client) → IsReply head.header.command → FirstOn x c (first.Message head) → HearsFirstReply x c head (Err u) new → IsErr r → HearsFirst x c head r new
 reply-out w x c head u (Ok told) new is h did err =
@@ -136,7 +138,7 @@ reply-out w x c head u (Ok told) new is h did err =
     absurd cc
 reply-out w x c head u (Err f) new is h did err =
     let m = first_on x c head in
-    let e = out-for w x m (answered_by c m.command m.p2 x.requests) u new is (first-count x c head h) (first-bytes x c head h) did (without_first c head x) in
+    let e = out-for w x m (answered_by c m.command m.p2 x.requests) u new (first-count x c head h) (first-bytes x c head h) did (without_first c head x) in
     (e.0, hears.Reply is e.1, e.2, inl e.3)
 
 pub update-out : {Y : Type 0} (w : Vec Y Global) (x : Client) (c : Handle) (head : Head) (r : Result (List notice.Notice) AllocError) → head.header.command ≡ command_number command.EventAdd → FirstOn x c (first.Message head) → (first_on x c head).payload ≢ [] → IsErr r → HearsFirst x c head r x

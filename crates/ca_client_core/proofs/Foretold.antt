@@ -29,7 +29,7 @@ use Rattle.ca_wire.specs.Reading.{IsOne, IsWhole}
 use Rattle.ca_wire.specs.Stream.{NoneBegins}
 use Rattle.ca_wire.proofs.Messages.{one-again}
 use Rattle.ca_requests.specs.Meaning.{message_of}
-use Rattle.ca_requests.specs.Requests.{Request, Stage, answered_by}
+use Rattle.ca_requests.specs.Requests.{Asked, Request, Stage, answered_by}
 use Rattle.ca_requests.specs.Requests as request
 use Rattle.ca_monitor.specs.Subscriptions.{Subscription, confirmed_by}
 use Rattle.ca_model.specs.Answers.{Sending}
@@ -174,13 +174,13 @@ module _ (x : Client) (c : Handle) (m : Fields) where
   cleared-quiet (Some (h, Clearing)) = refl
   cleared-quiet (Some (h, Doomed)) = refl
 
-  completes-quiet : (q : Handle) (s : Stage) (e : Effect) → Completes x m q s e → e.sent ≡ []
-  completes-quiet q request.Open e (o, means, is) = ap (λ (z : Effect). z.sent) is
-  completes-quiet q request.Draining e is = ap (λ (z : Effect). z.sent) is
+  completes-quiet : (q : Handle) (a : Asked) (s : Stage) (e : Effect) → Completes x m q a s e → e.sent ≡ []
+  completes-quiet q a request.Open e (o, means, is) = ap (λ (z : Effect). z.sent) is
+  completes-quiet q a request.Draining e is = ap (λ (z : Effect). z.sent) is
 
   answers-quiet : (o : Option (Handle × Request)) (e : Effect) → Answers x m o e → e.sent ≡ []
   answers-quiet None e is = ap (λ (z : Effect). z.sent) is
-  answers-quiet (Some (q, r)) e is = completes-quiet q r.stage e is
+  answers-quiet (Some (q, r)) e is = completes-quiet q r.asked r.stage e is
 
   confirmed-quiet : (o : Option Handle) → (confirmed x o).sent ≡ []
   confirmed-quiet None = refl

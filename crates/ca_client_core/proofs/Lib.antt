@@ -9,6 +9,7 @@ pub mod Quoted
 mod Queued
 mod Connected
 mod Outcomes
+mod Displays
 mod Dispatched
 pub mod Placing
 pub mod Endings

@@ -20,7 +20,7 @@ use Rattle.ca_dbr.specs.Types.{meta_size, padding_size, type_at, type_number}
 use Rattle.ca_dbr.proofs.LongBytes.{are-drop, are-take, enum-of, float-of, reading}
 use Rattle.ca_dbr.proofs.Readings.{reads_long, reads_parts}
 use Rattle.ca_wire.specs.Fields.{Fields}
-use Rattle.ca_requests.specs.Meaning.{ImageMeans, StatusMeans}
+use Rattle.ca_requests.specs.Meaning.{ImageMeans}
 
 -- ---- the type of a number
 
@@ -51,17 +51,17 @@ type-of (suc (suc (suc (suc (suc (suc (suc (suc (suc (suc (suc (suc (suc (suc (s
 -- ---- metadata
 
 -- the metadata at the front of these bytes
-record HasMeta (f : Form) (bytes : List ℕ) : Type 0 where
-  m : Meta
-  front : bytes ≡ meta_bytes f m ++ drop (meta_size f) bytes
-  fits : IsMeta m
-  only : carried f m ≡ m
+pub record HasMeta (f : Form) (bytes : List ℕ) : Type 0 where
+  pub m : Meta
+  pub front : bytes ≡ meta_bytes f m ++ drop (meta_size f) bytes
+  pub fits : IsMeta m
+  pub only : carried f m ≡ m
 
 -- two parts of a list, of these sizes
 parts-of : (n : ℕ) (bytes : List ℕ) (a : List ℕ) → a ≡ take n bytes → bytes ≡ a ++ drop n bytes
 parts-of n bytes a is = sym (take-append-drop n bytes) ∙ ap (λ (x : List ℕ). x ++ drop n bytes) (sym is)
 
-meta-of : (f : Form) (bytes : List ℕ) → meta_size f ≤ length bytes → AreBytes bytes → HasMeta f bytes
+pub meta-of : (f : Form) (bytes : List ℕ) → meta_size f ≤ length bytes → AreBytes bytes → HasMeta f bytes
 meta-of form.Plain bytes long are = record {
   m = record { status = 0; severity = 0; seconds = 0; nanos = 0 };
   front = refl;
@@ -118,10 +118,10 @@ meta-of form.Time bytes long are =
 -- ---- values
 
 -- a list in memory, beside one that is there
-abbrev vec_of : {X Y Z : Type 0} → Vec Y Z → (xs : List X) → length xs < 2 ^ 32 → Vec X Z
+abbrev pub vec_of : {X Y Z : Type 0} → Vec Y Z → (xs : List X) → length xs < 2 ^ 32 → Vec X Z
 vec_of w xs small = record { ptr = w.ptr; len = length xs; cap = length xs; alloc = w.alloc; items = xs; ok = (refl, omega arith); small = omega (arith, small) }
 
-value-of : {Y : Type 0} (w : Vec Y Global) (e : Elements) → count_of e < 2 ^ 32 → IsValue e → (v : Value) × (elements v ≡ e)
+pub value-of : {Y : Type 0} (w : Vec Y Global) (e : Elements) → count_of e < 2 ^ 32 → IsValue e → (v : Value) × (elements v ≡ e)
 value-of w (strings xs) small valued = (value.Strings (vec_of w xs small), refl)
 value-of w (ints xs) small valued = (value.Ints (vec_of w xs small), refl)
 value-of w (floats xs) small valued = (value.Floats (vec_of w xs small), refl)
@@ -165,11 +165,4 @@ image-means w m few are =
                       (outcome.Value v.0 v.1, (is, t, named, v.2))
                 ]
           ]
-    ]
-
-pub status-means : (m : Fields) → (o : Outcome) × StatusMeans m o
-status-means m =
-    elim (cases_eq m.p1 normal) [
-      | inl is ↦ (outcome.Done, is)
-      | inr other ↦ (outcome.Failed (record { number = m.p1 }), (other, refl))
     ]

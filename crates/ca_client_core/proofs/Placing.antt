@@ -151,7 +151,7 @@ module _ (t : Table Channel) (es : List (ℕ × search.Channel)) (q : Table Requ
   sound-answered old n m None (Err e) of h = absurd h
   sound-answered old n m (Some (g, v)) r of h = by v.stage r h
     where
-      by : (stage : Stage) (a : Result (Option (Handle × Outcome)) AllocError) → requests.Completes old m g stage a n → IsSound t es n.table s cs ls
+      by : (stage : Stage) (a : Result (Option (Handle × Outcome)) AllocError) → requests.Completes old m g v.asked stage a n → IsSound t es n.table s cs ls
       by Open (Ok (Some (p, e))) k = sound-without (Some g) old n of k.2
       by Open (Ok None) k = absurd k
       by Open (Err e) k = sound-without None old n of k.1
@@ -216,10 +216,10 @@ hears-reply x n m (Some (g, v)) r h = by v.stage refl r h
     old : Issued
     old = record { table = x.requests; order = x.issued }
 
-    told : (stage : Stage) → v.stage ≡ stage → (e : Effect) → hears.Completes x m g stage e → hears.Completes x m g v.stage e
-    told stage is e done = subst (λ (z : Stage). hears.Completes x m g z e) (sym is) done
+    told : (stage : Stage) → v.stage ≡ stage → (e : Effect) → hears.Completes x m g v.asked stage e → hears.Completes x m g v.asked v.stage e
+    told stage is e done = subst (λ (z : Stage). hears.Completes x m g v.asked z e) (sym is) done
 
-    by : (stage : Stage) → v.stage ≡ stage → (a : Result (Option (Handle × Outcome)) AllocError) → requests.Completes old m g stage a n → HearsReplyTo x m (Some (g, v)) a (with_issued x n)
+    by : (stage : Stage) → v.stage ≡ stage → (a : Result (Option (Handle × Outcome)) AllocError) → requests.Completes old m g v.asked stage a n → HearsReplyTo x m (Some (g, v)) a (with_issued x n)
     by Open is (Ok (Some (p, o))) k =
         told Open is (doing [] (completed (Some (p, o))) (with_issued x n))
         (o, k.1, λ i. doing [] (notice.Completed (k.0 i) o ∷ []) (with_issued x (k.2 i)))

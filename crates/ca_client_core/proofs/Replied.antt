@@ -7,7 +7,7 @@ use Rattle.ca_dbr.specs.declared.value.Outcome.{Outcome}
 use Rattle.ca_ids.specs.Table.{under}
 use Rattle.ca_wire.specs.Fields.{Fields}
 use Rattle.ca_wire.specs.declared.reading.Head.{Head}
-use Rattle.ca_requests.specs.Requests.{Request, Stage, answered_by}
+use Rattle.ca_requests.specs.Requests.{Asked, Request, Stage, answered_by}
 use Rattle.ca_requests.specs.Requests as request
 use Rattle.ca_model.specs.Answers as answer
 use Rattle.ca_model.specs.Client.{Client, ClientCircuit, Connection, closing, connection_at, ended}
@@ -81,13 +81,13 @@ after c head e = record e { core = without_first c head e.core }
 pub reply-taken : (x y : Client) (c : Handle) (head : Head) (m : Fields) (told : Option (Handle × Outcome)) → HearsReply x c m (Ok told) y → HearsReply (without_first c head x) c m (Ok told) (without_first c head y)
 reply-taken x y c head m told did = go (answered_by c m.command m.p2 x.requests) did
   where
-    by : (q : Handle) (s : Stage) (e : Effect) → Completes x m q s e → Completes (without_first c head x) m q s (after c head e)
-    by q request.Open e (o, means, is) = (o, means, ap (after c head) is)
-    by q request.Draining e is = ap (after c head) is
+    by : (q : Handle) (a : Asked) (s : Stage) (e : Effect) → Completes x m q a s e → Completes (without_first c head x) m q a s (after c head e)
+    by q a request.Open e (o, means, is) = (o, means, ap (after c head) is)
+    by q a request.Draining e is = ap (after c head) is
 
     go : (about : Option (Handle × Request)) → HearsReplyTo x m about (Ok told) y → HearsReplyTo (without_first c head x) m about (Ok told) (without_first c head y)
     go None is = ap (after c head) is
-    go (Some (q, r)) done = by q r.stage (doing [] (completed told) y) done
+    go (Some (q, r)) done = by q r.asked r.stage (doing [] (completed told) y) done
 
 -- a step that read one
 stepped : (x : Client) (c : Handle) (head : Head) (told : Option (Handle × Outcome)) (new : Client) → FirstOn x c (first.Message head) → IsReply head.header.command → HearsFirstReply x c head (Ok told) new → (sent : List answer.Sending) × ClientSteps x c (answer.Notices (completed told)) sent new

@@ -26,13 +26,13 @@ CancelsOn old s d c sid (Err refusal.OutputFull) new = (is_over old c ≡ true) 
 CancelsOn old s d c sid (Err refusal.OutOfMemory) new = (is_over old c ≡ false) × (new ≡ old)
 CancelsOn old s d c sid (Err _) new = ⊥
 
--- why a read or a subscription on a live channel is refused
-abbrev pub live_ask_fault : Client → (full : Bool) → Handle → (greatest rights : ℕ) → Shape
-    → Option Refusal
-live_ask_fault x full c greatest rights a =
-    first_refusal ((is_none (type_of a.data_type), refusal.BadType)
+-- why a read or a subscription on a live channel is refused, of a type that is bad or not
+abbrev pub live_ask_fault : (bad : Bool) → Client → (full : Bool) → Handle
+    → (greatest rights count : ℕ) → Option Refusal
+live_ask_fault bad x full c greatest rights count =
+    first_refusal ((bad, refusal.BadType)
     ∷ (not (may_read rights), refusal.NoAccess)
-    ∷ (nat_lt greatest a.count, refusal.BadCount)
+    ∷ (nat_lt greatest count, refusal.BadCount)
     ∷ (is_over x c, refusal.OutputFull)
     ∷ (full, refusal.ArenaFull)
     ∷ [])

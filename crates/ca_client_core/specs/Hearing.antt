@@ -6,7 +6,7 @@ use Rattle.ca_dbr.specs.declared.value.Outcome.{Outcome}
 use Rattle.ca_dbr.specs.declared.value.Outcome.TheVariants as outcome
 use Rattle.ca_wire.specs.declared.header.Header.{Header}
 use Rattle.ca_wire.specs.Fields.{Fields}
-use Rattle.ca_requests.specs.Calls.{HasImage}
+use Rattle.ca_requests.specs.Calls.{TakesMemory}
 use Rattle.ca_requests.specs.Meaning.{message_of}
 use Rattle.ca_requests.specs.Requests.{Request, answered_by}
 use Rattle.ca_requests.specs.Requests as request
@@ -44,7 +44,8 @@ completed (Some (q, o)) = notice.Completed q o ∷ []
 abbrev pub HearsReplyTo : Client → Fields → Option (Handle × Request)
     → Result (Option (Handle × Outcome)) AllocError → Client → Type 0
 HearsReplyTo old m about (Ok told) new = Answers old m about (doing [] (completed told) new)
-HearsReplyTo old m (Some (q, r)) (Err e) new = (r.stage ≡ request.Open) × HasImage m × (new ≡ old)
+HearsReplyTo old m (Some (q, r)) (Err e) new =
+    (r.stage ≡ request.Open) × TakesMemory r.asked m × (new ≡ old)
 HearsReplyTo old m None (Err e) new = ⊥
 
 -- READ_NOTIFY and WRITE_NOTIFY

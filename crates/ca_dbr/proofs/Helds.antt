@@ -10,7 +10,7 @@ use Rattle.ca_dbr.specs.declared.value.Meta.{Meta}
 use Rattle.ca_dbr.specs.declared.value.Value.{Value}
 use Rattle.ca_dbr.specs.declared.value.Value.TheVariants as value
 use Rattle.ca_dbr.specs.Types.{size_of_image}
-use Rattle.ca_dbr.specs.Display.{DisplayData}
+use Rattle.ca_dbr.specs.DisplayData.{DisplayData}
 use Rattle.ca_dbr.specs.Elements.{Elements, strings, ints, floats, enums, chars, longs, doubles, displayed, elements, base_of, count_of, IsValue}
 use Rattle.ca_dbr.specs.Number.{text_of, number_in, number_text}
 use Rattle.ca_dbr.specs.Conversion.{in_signed, in_unsigned, numbered, gathered, then_elements, in_base, with_data, converted}

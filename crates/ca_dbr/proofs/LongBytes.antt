@@ -109,7 +109,7 @@ fits-2 n small = grind (arith, small)
 fits-4 : (n : ℕ) → n < 2 ^ 32 → FitsSigned w32 (cast_signed w32 n)
 fits-4 n small = grind (arith, small)
 
-int-of : (bs : List ℕ) → length bs ≡ 2 → AreBytes bs → Unit-of signed_bytes_2 (λ (z : ℤ). FitsSigned w16 z) bs
+pub int-of : (bs : List ℕ) → length bs ≡ 2 → AreBytes bs → Unit-of signed_bytes_2 (λ (z : ℤ). FitsSigned w16 z) bs
 unfolding signed_bytes_2
 int-of bs size are =
     let small = below-2 bs size are in
@@ -123,7 +123,7 @@ long-of bs size are =
 
 -- ---- many
 
-abbrev Many : {A : Type 0} → (A → List ℕ) → (A → Type 0) → ℕ → List ℕ → Type 0
+abbrev pub Many : {A : Type 0} → (A → List ℕ) → (A → Type 0) → ℕ → List ℕ → Type 0
 Many {A} spell ok n bytes = (xs : List A) × (behind : List ℕ) × (bytes ≡ flat_map spell xs ++ behind) × (length xs ≡ n) × All ok xs
 
 all-none : {A : Type 0} (ok : A → Type 0) → (let none : List A = [] in All ok none)
@@ -134,7 +134,7 @@ all-more ok x xs here rest zero d lt = here
 all-more ok x xs here rest (suc i) d lt = rest i d (omega (arith, lt))
 
 -- n times a size
-abbrev total : ℕ → ℕ → ℕ
+abbrev pub total : ℕ → ℕ → ℕ
 total zero size = 0
 total (suc n) size = size + total n size
 
@@ -158,7 +158,7 @@ total-1 : (n : ℕ) → total n 1 ≡ n * 1
 total-1 zero = refl
 total-1 (suc n) = (let r = total-1 n in omega (arith, r))
 
-many : {A : Type 0} (size : ℕ) (spell : A → List ℕ) (ok : A → Type 0) → ((bs : List ℕ) → length bs ≡ size → AreBytes bs → Unit-of spell ok bs) → (n : ℕ) (bytes : List ℕ) → total n size ≤ length bytes → AreBytes bytes → Many spell ok n bytes
+pub many : {A : Type 0} (size : ℕ) (spell : A → List ℕ) (ok : A → Type 0) → ((bs : List ℕ) → length bs ≡ size → AreBytes bs → Unit-of spell ok bs) → (n : ℕ) (bytes : List ℕ) → total n size ≤ length bytes → AreBytes bytes → Many spell ok n bytes
 many {A} size spell ok one zero bytes long are = (let none : List A = [] in (none, bytes, refl, refl, all-none ok))
 many size spell ok one (suc n) bytes long are =
     let whole : size + total n size ≤ length bytes = long in

@@ -2,7 +2,7 @@
 use Rattle.std.specs.Prelude.{ℕ, ◌≡◌, ◌==◌, ℤ, List, [], ◌∷◌, cond, refl}
 use Rattle.std.specs.Coded.{Coded, code_by, coded×, coded_ℕ, coded_ℤ, coded_list}
 use mathlib.Core.Path.{ap}
-use Rattle.ca_dbr.specs.Display.{DisplayData}
+use Rattle.ca_dbr.specs.DisplayData.{DisplayData}
 use Rattle.ca_dbr.specs.Elements.{Elements, strings, ints, floats, enums, chars, longs, doubles}
 use Rattle.ca_dbr.specs.Elements.{displayed}
 

@@ -1,7 +1,7 @@
 -- What a record holds: elements, with display data if it has some.
 use Rattle.std.specs.Prelude.{Option, Some, None}
 use Rattle.ca_dbr.specs.declared.data_type.BaseType.{BaseType}
-use Rattle.ca_dbr.specs.Display.{DisplayData, IsData}
+use Rattle.ca_dbr.specs.DisplayData.{DisplayData, IsData}
 use Rattle.ca_dbr.specs.Elements.{Elements, strings, ints, floats, enums, chars, longs, doubles}
 use Rattle.ca_dbr.specs.Elements.{displayed, base_of, IsValue}
 

@@ -1,5 +1,6 @@
 pub mod Types
-pub mod Display
+pub mod DisplayData
+pub mod Data
 pub mod Elements
 pub mod Image
 pub mod Reading

@@ -6,6 +6,7 @@ ghost use Rattle.ca_dbr.specs.Elements.{elements, base_of, count_of, IsValue};
 ghost use Rattle.ca_dbr.specs.Held.{IsHeldValue};
 
 use crate::data_type::BaseType;
+use crate::display::Display;
 use crate::element::know_all;
 use ca_text::{Refusal, Status};
 use std::alloc::{AllocError, Global};
@@ -40,6 +41,8 @@ pub struct Meta {
 pub enum Outcome {
     /// A read, or an update, with its value.
     Value(Value, Meta),
+    /// A read with display data: its value, its status and severity, and these.
+    Displayed(Value, Meta, Box<Display>),
     /// A put with notification was done.
     Done,
     /// The server answered with this status.

@@ -14,7 +14,7 @@ use Rattle.ca_dbr.specs.declared.data_type.BaseType.TheVariants as base
 use Rattle.ca_dbr.specs.declared.data_type.Form.TheVariants as plain_form
 use Rattle.ca_dbr.specs.declared.value.Meta.{Meta}
 use Rattle.ca_dbr.specs.Types.{element_size}
-use Rattle.ca_dbr.specs.Display.{DisplayData, IsData}
+use Rattle.ca_dbr.specs.DisplayData.{DisplayData, IsData}
 use Rattle.ca_dbr.specs.Elements.{Elements, base_of, count_of, bytes_of, IsValue}
 use Rattle.ca_dbr.specs.Image.{meta_bytes}
 use Rattle.ca_dbr.specs.Reading.{carried, IsMeta, ReadsElements}

@@ -1,7 +1,7 @@
 -- What a record holds, by its value and its display data.
 use Rattle.std.proofs.Common.{◌≡◌, ℕ, Bool, true, false, List, Option, Some, None, IfSome, refl, sym, ap}
 use Rattle.ca_dbr.specs.declared.value.Value.{Value}
-use Rattle.ca_dbr.specs.Display.{DisplayData, IsData}
+use Rattle.ca_dbr.specs.DisplayData.{DisplayData, IsData}
 use Rattle.ca_dbr.specs.Elements.{Elements, displayed, elements, base_of, count_of, IsValue}
 use Rattle.ca_dbr.specs.Held.{IsHeldValue, bare, display_of, displayed_by}
 use Rattle.ca_dbr.specs.Reading.{CanReadOver, ReadsOver}

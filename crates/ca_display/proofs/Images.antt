@@ -9,7 +9,7 @@ use Rattle.ca_dbr.specs.declared.data_type.Form.TheVariants as plain_form
 use Rattle.ca_dbr.specs.declared.data_type.DataType.{DataType}
 use Rattle.ca_dbr.specs.declared.value.Meta.{Meta}
 use Rattle.ca_dbr.specs.Types.{base_number, type_number, element_size, size_of_image}
-use Rattle.ca_dbr.specs.Display.{DisplayData}
+use Rattle.ca_dbr.specs.DisplayData.{DisplayData}
 use Rattle.ca_dbr.specs.Elements.{Elements, base_of, bytes_of}
 use Rattle.ca_dbr.specs.Image.{image, meta_bytes}
 use Rattle.ca_dbr.specs.Shown.{shown, WritesShown}

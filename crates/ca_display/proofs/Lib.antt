@@ -1,5 +1,6 @@
 pub mod Images
 pub mod Readings
+pub mod LongData
 pub mod Again
 pub mod Named
 pub mod Decimals

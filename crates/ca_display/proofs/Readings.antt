@@ -12,7 +12,7 @@ use Rattle.ca_dbr.specs.declared.data_type.Form.TheVariants as plain_form
 use Rattle.ca_dbr.specs.declared.data_type.DataType.{DataType}
 use Rattle.ca_dbr.specs.declared.value.Meta.{Meta}
 use Rattle.ca_dbr.specs.Types.{base_number, type_number, element_size}
-use Rattle.ca_dbr.specs.Display.{DisplayData}
+use Rattle.ca_dbr.specs.DisplayData.{DisplayData}
 use Rattle.ca_dbr.specs.Elements.{Elements, strings, ints, floats, enums, chars, longs, doubles, displayed, base_of, count_of, bytes_of, IsValue, bytes_2, signed_bytes_2, string_bytes}
 use Rattle.ca_dbr.specs.Image.{meta_bytes}
 use Rattle.ca_dbr.specs.Reading.{carried, filled, least_size, IsLong, IsMeta, ReadsElements, Reads, ReadRefused}
@@ -24,7 +24,7 @@ use Rattle.ca_display.specs.declared.display_type.DisplayType.{DisplayType}
 use Rattle.ca_display.specs.declared.display_type.DisplayForm.TheVariants as form
 use Rattle.ca_display.specs.Types.{display_number, limit_count, data_size}
 use Rattle.ca_display.specs.Limits.{as_doubles, whole_as_double, natural_as_double, float_as_double, double_limit}
-use Rattle.ca_display.specs.Data.{in_field}
+use Rattle.ca_dbr.specs.Data.{in_field}
 use Rattle.ca_display.specs.Reading.{limits_from, ReadsLimits, ReadsReal, ReadsWhole, ReadsStates, ReadsData, ReadsDisplay, DisplayRefused}
 use Rattle.ca_display.proofs.Images.{plain, plain-one}
 
@@ -151,7 +151,7 @@ real_size : (b : BaseType) (f : DisplayForm) (bytes : List ℕ) (d : DisplayData
 real_size b f bytes d r =
     ap length r.parts ∙ length-append (signed_bytes_2 d.precision) (r.padding ++ r.behind) ∙ omega (arith, length-signed_bytes_2 d.precision, length-append r.padding r.behind, r.padded, limits_size b f r.behind d.units d.limits r.limits)
 
-length-names : (xs : List (List ℕ)) → All (λ x. length x ≡ 26) xs → All (λ x. length (string_bytes x) ≡ 26) xs
+pub length-names : (xs : List (List ℕ)) → All (λ x. length x ≡ 26) xs → All (λ x. length (string_bytes x) ≡ 26) xs
 unfolding string_bytes
 length-names xs all = all
 

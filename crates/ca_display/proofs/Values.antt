@@ -23,7 +23,7 @@ use Rattle.ca_dbr.specs.declared.data_type.BaseType.{BaseType}
 use Rattle.ca_dbr.specs.declared.data_type.BaseType.TheVariants as base
 use Rattle.ca_dbr.specs.Conversion.{HasConversion, IsFault, converted, first_and, gathered, in_signed, in_unsigned, then_elements, with_data}
 use Rattle.ca_dbr.proofs.Faults.{converted-fault, converted-none}
-use Rattle.ca_dbr.specs.Display.{DisplayData, IsData}
+use Rattle.ca_dbr.specs.DisplayData.{DisplayData, IsData}
 use Rattle.ca_dbr.specs.Elements.{Elements, strings, ints, floats, enums, chars, longs, doubles, displayed, base_of, IsValue}
 use Rattle.ca_dbr.specs.Number.{is_space, text_of}
 use Rattle.ca_dbr.proofs.Images.{All-head, All-tail}
@@ -34,7 +34,7 @@ use Rattle.ca_dbr.proofs.Valued.{converted-valued}
 use Rattle.ca_display.specs.declared.number.Number.{Number}
 use Rattle.ca_display.specs.declared.number.Number.TheVariants as number
 use Rattle.ca_display.specs.Conversion.{and_number, as_whole, display_converted, double_shown, enum_text, float_shown, in_numbers, of_double, of_float, of_natural, of_text, of_whole, state_of}
-use Rattle.ca_display.specs.Data.{in_field}
+use Rattle.ca_dbr.specs.Data.{in_field}
 use Rattle.ca_display.specs.Number.{as_double, as_float, double_number, float_bits, float_in, float_text, front_float, in_type, text_number, whole_of}
 use Rattle.ca_display.specs.Real.{in_string, places_of, real_text, signed_units, units_text}
 use Rattle.ca_display.specs.States.{is_named, name_or, state_number, state_text}

@@ -6,7 +6,7 @@ use Rattle.std.specs.Float.Ieee.{le}
 use Rattle.ca_text.specs.declared.refusal.Refusal.{Refusal}
 use Rattle.ca_dbr.specs.Elements.{Elements, strings, ints, floats, enums, chars, longs, doubles}
 use Rattle.ca_dbr.specs.Elements.{displayed}
-use Rattle.ca_dbr.specs.Display.{DisplayData}
+use Rattle.ca_dbr.specs.DisplayData.{DisplayData}
 use Rattle.ca_display.specs.declared.number.Number.{Number}
 use Rattle.ca_display.specs.Number.{as_double}
 use Rattle.ca_display.specs.Conversion.{of_whole, of_natural, of_float, of_double}

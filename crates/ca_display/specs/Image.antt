@@ -10,7 +10,7 @@ use Rattle.ca_dbr.specs.declared.data_type.BaseType.TheVariants as base
 use Rattle.ca_dbr.specs.declared.data_type.Form.TheVariants as plain_form
 use Rattle.ca_dbr.specs.declared.value.Meta.{Meta}
 use Rattle.ca_dbr.specs.Types.{element_size, size_of_image}
-use Rattle.ca_dbr.specs.Display.{DisplayData}
+use Rattle.ca_dbr.specs.DisplayData.{DisplayData}
 use Rattle.ca_dbr.specs.Elements.{Elements, bytes_2, bytes_of, signed_bytes_2}
 use Rattle.ca_dbr.specs.Elements.{string_bytes}
 use Rattle.ca_dbr.specs.Image.{image, meta_bytes}

@@ -9,7 +9,7 @@ use Rattle.ca_dbr.specs.declared.data_type.BaseType.{BaseType}
 use Rattle.ca_dbr.specs.declared.data_type.BaseType.TheVariants as base
 use Rattle.ca_dbr.specs.declared.data_type.Form.TheVariants as plain_form
 use Rattle.ca_dbr.specs.declared.value.Meta.{Meta}
-use Rattle.ca_dbr.specs.Display.{DisplayData}
+use Rattle.ca_dbr.specs.DisplayData.{DisplayData}
 use Rattle.ca_dbr.specs.Elements.{Elements, base_of, count_of, bytes_2, bytes_of, IsValue}
 use Rattle.ca_dbr.specs.Elements.{signed_bytes_2, string_bytes}
 use Rattle.ca_dbr.specs.Image.{meta_bytes}
@@ -18,7 +18,7 @@ use Rattle.ca_display.specs.declared.display_type.DisplayForm.{DisplayForm}
 use Rattle.ca_display.specs.declared.display_type.DisplayType.{DisplayType}
 use Rattle.ca_display.specs.Types.{display_number, limit_count}
 use Rattle.ca_display.specs.Limits.{limits_in, as_doubles}
-use Rattle.ca_display.specs.Data.{in_field}
+use Rattle.ca_dbr.specs.Data.{in_field}
 
 -- no display data: all is zero
 abbrev pub no_data : DisplayData

@@ -7,7 +7,7 @@ use Rattle.std.specs.Prelude.{from_bits}
 use Rattle.std.specs.Int.{w16, w64, cast_unsigned}
 use Rattle.std.specs.Float.{Float, Format, binary32, binary64, float_to_unsigned, float_with_sign}
 use Rattle.std.specs.Float.Ieee.{le, lt, sub, mul, of_int, top}
-use Rattle.ca_display.specs.Data.{in_field}
+use Rattle.ca_dbr.specs.Data.{in_field}
 use Rattle.ca_display.specs.Decimal.{point_text, fixed_text, scientific_text, size_text, in_width}
 
 -- a text in the 40 bytes of a STRING, which cut it

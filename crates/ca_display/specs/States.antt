@@ -8,7 +8,7 @@ use Rattle.ca_text.specs.declared.refusal.Refusal.{Refusal}
 use Rattle.ca_dbr.specs.Number.{text_of}
 use Rattle.ca_display.specs.declared.number.Number.{Number}
 use Rattle.ca_display.specs.declared.number.Number.TheVariants as number
-use Rattle.ca_display.specs.Data.{in_field}
+use Rattle.ca_dbr.specs.Data.{in_field}
 use Rattle.ca_display.specs.Number.{text_number}
 
 -- a name, or another text if it is empty

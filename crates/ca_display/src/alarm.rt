@@ -3,11 +3,10 @@ ghost use Rattle.std.specs.Prelude.{◌≡◌, from_bits};
 ghost use Rattle.std.specs.Float.{binary64};
 ghost use Rattle.ca_dbr.specs.Elements.{elements};
 ghost use Rattle.ca_display.specs.Alarm.{alarm_at, alarm_of, limit_alarm, one_alarm};
-ghost use Rattle.ca_display.specs.Data.{limits_of};
+ghost use Rattle.ca_dbr.specs.Data.{limits_of};
 
-use crate::display::Limits;
 use crate::numeric::Numeric;
-use ca_dbr::Value;
+use ca_dbr::{Limits, Value};
 use std::num::f64_from_bits_with_nan;
 
 // Statuses of the fields HIHI, HIGH, LOLO and LOW, and severities.

@@ -4,19 +4,18 @@ ghost use Rattle.std.specs.Prelude.{MatchResult, IfOk, IfErr, Result};
 ghost use Rattle.ca_text.specs.declared.refusal.Refusal.{Refusal};
 ghost use Rattle.ca_text.specs.declared.refusal.Refusal.TheVariants.{OutOfMemory};
 ghost use Rattle.ca_dbr.specs.declared.data_type.BaseType.TheVariants as base_type;
-ghost use Rattle.ca_dbr.specs.Display.{DisplayData};
+ghost use Rattle.ca_dbr.specs.DisplayData.{DisplayData};
 ghost use Rattle.ca_dbr.specs.Elements.{count_of, elements};
 ghost use Rattle.ca_dbr.specs.Conversion.{gathered, Fails};
 ghost use Rattle.ca_dbr.specs.Shown.{first_elements};
-ghost use Rattle.ca_display.specs.Data.{data_of};
+ghost use Rattle.ca_dbr.specs.Data.{data_of};
 ghost use Rattle.ca_display.specs.Conversion.{state_of, enum_text, float_shown, double_shown};
 ghost use Rattle.ca_display.specs.Conversion.{in_numbers, display_converted};
 
-use crate::display::Display;
 use crate::numeric::{Numeric, TextToFloat, ToDouble, ToFloat, ToWhole};
 use crate::real::real_text;
 use crate::states::{state_number, state_text};
-use ca_dbr::{BaseType, Value, convert_all, convert_to, text_of};
+use ca_dbr::{BaseType, Display, Value, convert_all, convert_to, text_of};
 use ca_text::Refusal;
 use std::alloc::{AllocError, Global};
 

@@ -7,14 +7,13 @@ ghost use Rattle.ca_dbr.specs.Elements.{base_of, count_of, displayed, elements};
 ghost use Rattle.ca_dbr.specs.Held.{IsHeldValue, bare, display_of, displayed_by};
 ghost use Rattle.ca_display.specs.Alarm.{alarm_by};
 ghost use Rattle.ca_display.specs.Conversion.{converted_by};
-ghost use Rattle.ca_display.specs.Data.{data_of};
+ghost use Rattle.ca_dbr.specs.Data.{data_of};
 ghost use Rattle.ca_display.specs.Holding.{HoldsOver};
 
 use crate::alarm::alarm_of;
 use crate::conversion::convert_display;
-use crate::display::Display;
 use crate::renewing::copy_over;
-use ca_dbr::{Value, convert_to};
+use ca_dbr::{Display, Value, convert_to};
 use ca_text::Refusal;
 use std::alloc::{AllocError, Global};
 use std::marker::Model;
@@ -41,7 +40,7 @@ impl Model for Held {
     ghost use Rattle.std.specs.Prelude.{option_map};
     ghost use Rattle.ca_dbr.specs.Elements.{elements};
     ghost use Rattle.ca_dbr.specs.Held.{displayed_by};
-    ghost use Rattle.ca_display.specs.Data.{data_of};
+    ghost use Rattle.ca_dbr.specs.Data.{data_of};
 
     ghost view = { λ h.
         displayed_by (option_map data_of (option_map arc_value h.display)) (elements h.value) };

@@ -10,17 +10,16 @@ ghost use Rattle.ca_dbr.specs.Image.{meta_bytes};
 ghost use Rattle.ca_display.specs.declared.image_type.ImageType.{ImageType};
 ghost use Rattle.ca_display.specs.declared.image_type.ImageType.TheVariants as any;
 ghost use Rattle.ca_display.specs.Types.{base_in, image_number, data_size, limit_count};
-ghost use Rattle.ca_display.specs.Data.{data_of};
+ghost use Rattle.ca_dbr.specs.Data.{data_of};
 ghost use Rattle.ca_display.specs.Image.{limit_bytes, real_bytes, data_bytes, size_of_display};
 ghost use Rattle.ca_display.specs.Image.{size_in, PutsOwn, WritesIn, WritesDisplay};
 ghost use Rattle.ca_text.specs.declared.refusal.Refusal.TheVariants.{BadType, OutOfMemory};
 
 use crate::conversion::convert_first;
-use crate::display::{Display, STATE_LIMIT};
 use crate::display_type::DisplayType;
 use crate::image_type::ImageType;
 use crate::limits::put_limits_in;
-use ca_dbr::{BaseType, Meta, Value, put_bytes, put_zeros, write_shown};
+use ca_dbr::{BaseType, Display, Meta, STATE_LIMIT, Value, put_bytes, put_zeros, write_shown};
 use ca_text::Refusal;
 
 // How many bytes are between status and severity and the elements.

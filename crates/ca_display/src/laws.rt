@@ -3,7 +3,7 @@ ghost use Rattle.std.specs.Prelude.{◌≡◌, ℕ, ◌++◌, List, length, Ok};
 ghost use Rattle.ca_dbr.specs.declared.data_type.Form.TheVariants as plain_form;
 ghost use Rattle.ca_dbr.specs.declared.data_type.BaseType.{BaseType};
 ghost use Rattle.ca_dbr.specs.declared.value.Meta.{Meta};
-ghost use Rattle.ca_dbr.specs.Display.{DisplayData, IsData};
+ghost use Rattle.ca_dbr.specs.DisplayData.{DisplayData, IsData};
 ghost use Rattle.ca_dbr.specs.Elements.{Elements, base_of, count_of, IsValue};
 ghost use Rattle.ca_dbr.specs.Reading.{carried, IsMeta};
 ghost use Rattle.ca_display.specs.declared.display_type.DisplayType.{DisplayType};

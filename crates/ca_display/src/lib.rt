@@ -5,10 +5,8 @@
 mod alarm;
 mod conversion;
 mod decimal;
-mod display;
 mod display_type;
 mod exact;
-mod field;
 mod held;
 mod image;
 mod image_type;
@@ -24,7 +22,6 @@ mod states;
 
 pub use alarm::alarm_of;
 pub use conversion::convert_display;
-pub use display::{Display, Limits};
 pub use display_type::{DisplayForm, DisplayType};
 pub use held::Held;
 pub use image::{display_size, write_display};

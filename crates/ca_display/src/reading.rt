@@ -10,7 +10,7 @@ ghost use Rattle.ca_dbr.specs.Elements.{Elements, elements, base_of, bytes_of, c
 ghost use Rattle.ca_dbr.specs.Elements.{bytes_2, signed_bytes_2, string_bytes};
 ghost use Rattle.ca_display.specs.declared.display_type.DisplayType.{DisplayType};
 ghost use Rattle.ca_display.specs.Types.{display_number, data_size, limit_count};
-ghost use Rattle.ca_display.specs.Data.{data_of, limits_of, in_field};
+ghost use Rattle.ca_dbr.specs.Data.{data_of, limits_of, in_field};
 ghost use Rattle.ca_display.specs.Limits.{as_doubles};
 ghost use Rattle.ca_display.specs.Reading.{ReadsReal, ReadsWhole, ReadsStates, ReadsData};
 ghost use Rattle.ca_display.specs.Reading.{ReadsDisplay, DisplayRefused};
@@ -18,11 +18,10 @@ ghost use Rattle.ca_dbr.specs.declared.data_type.Form.TheVariants as plain_form;
 ghost use Rattle.ca_dbr.specs.Image.{meta_bytes};
 ghost use Rattle.ca_dbr.specs.Reading.{carried, IsMeta};
 
-use crate::display::{Display, Limits, STATE_LIMIT};
 use crate::display_type::DisplayType;
 use crate::image::data_size;
 use crate::limits::doubles_of;
-use ca_dbr::{BaseType, Meta, Value, read_value};
+use ca_dbr::{BaseType, Display, Limits, Meta, STATE_LIMIT, Value, read_value};
 use ca_text::Refusal;
 use std::alloc::{AllocError, Global};
 

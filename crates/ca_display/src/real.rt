@@ -7,9 +7,9 @@ ghost use Rattle.ca_display.specs.Real.{more_bytes, minus_text, printed_text, re
 ghost use Rattle.ca_display.specs.Decimal.{in_width};
 
 use crate::decimal::{power_of, put, put_units};
-use crate::field::field_of;
 use crate::printed::put_size;
 use arrayvec::ArrayVec;
+use ca_dbr::field_of;
 use std::num::{
     f32_from_bits_with_nan, f32_to_f64_with_nan, f64_from_bits_with_nan, f64_to_bits_with_nan,
     nearest_u64_to_f32, nearest_u64_to_f64, saturating_f32_to_u64, saturating_f64_to_u64,

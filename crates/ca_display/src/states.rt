@@ -3,9 +3,8 @@ ghost use Rattle.std.specs.Prelude.{◌≡◌, ◌≤◌, length};
 ghost use Rattle.std.specs.List.{position_or_len};
 ghost use Rattle.ca_display.specs.States.{is_named, state_text, state_number};
 
-use crate::field::field_of;
 use crate::number::{Number, number_of_text};
-use ca_dbr::text_of;
+use ca_dbr::{field_of, text_of};
 use ca_text::{Refusal, is_same_name};
 use itoa::Buffer;
 

@@ -11,7 +11,7 @@ use Rattle.ca_link.specs.declared.keep.Keep.TheVariants.{Close, Echo, Idle}
 use Rattle.ca_link.specs.Link.{kept}
 use Rattle.ca_monitor.specs.ReadRun.{after_read, asked_between}
 use Rattle.ca_monitor.specs.Subscriptions.{Subscription, is_to, standing_to, stands_in}
-use Rattle.ca_requests.specs.Requests.{Request, answered_by}
+use Rattle.ca_requests.specs.Requests.{Asked, Request, answered_by}
 use Rattle.ca_requests.specs.Requests as request
 use Rattle.ca_search.specs.Searches as search
 use Rattle.ca_text.specs.Command.{command_number}
@@ -185,12 +185,12 @@ module _ (n : Names) (x : Client) (meant : MeanToSubscribe n x.subscriptions) (c
   left-suits (Some (h, Clearing)) is = quiet-suits n x m e _ is refl
   left-suits (Some (h, Doomed)) is = quiet-suits n x m e _ is refl
 
-  completes-suits : (q : Handle) (s : request.Stage) → Completes x m q s e → AllSuit n e.sent
-  completes-suits q request.Open does = quiet-suits n x m e _ does.2 refl
-  completes-suits q request.Draining does = quiet-suits n x m e _ does refl
+  completes-suits : (q : Handle) (a : Asked) (s : request.Stage) → Completes x m q a s e → AllSuit n e.sent
+  completes-suits q a request.Open does = quiet-suits n x m e _ does.2 refl
+  completes-suits q a request.Draining does = quiet-suits n x m e _ does refl
 
   answers-suits : (o : Option (Handle × Request)) → Answers x m o e → AllSuit n e.sent
-  answers-suits (Some (q, r)) does = completes-suits q r.stage does
+  answers-suits (Some (q, r)) does = completes-suits q r.asked r.stage does
   answers-suits None is = quiet-suits n x m e _ is refl
 
   confirmed-quiet : (o : Option Handle) → (confirmed x o).sent ≡ []

@@ -326,13 +326,13 @@ module _ (on : Handle) (x : Client) (e : Effect) (few : AreFew x) where
     answered-none (Some (h, Creating rights)) = refl
     answered-none (Some (h, Live native rights)) = refl
 
-    given-completes : (q : Handle) (s : request.Stage) → Completes x m q s e → Given on x e.core e.sent
-    given-completes q request.Open done = none-so on x e few _ done.2 refl
-    given-completes q request.Draining done = none-so on x e few _ done refl
+    given-completes : (q : Handle) (a : Asked) (s : request.Stage) → Completes x m q a s e → Given on x e.core e.sent
+    given-completes q a request.Open done = none-so on x e few _ done.2 refl
+    given-completes q a request.Draining done = none-so on x e few _ done refl
 
     given-reply : (o : Option (Handle × Request)) → Answers x m o e → Given on x e.core e.sent
     given-reply None is = none-so on x e few (becomes x) is refl
-    given-reply (Some (q, r)) is = given-completes q r.stage is
+    given-reply (Some (q, r)) is = given-completes q r.asked r.stage is
 
     confirmed-none : (o : Option Handle) → (confirmed x o).sent ≡ []
     confirmed-none None = refl

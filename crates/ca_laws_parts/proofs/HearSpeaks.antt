@@ -7,7 +7,7 @@ use Rattle.ca_ids.specs.Table.{by_wire, held, same_handle, under, with_freed}
 use Rattle.ca_ids.specs.Wire.{wire_of}
 use Rattle.ca_monitor.specs.Subscriptions.{Stage, Subscription, is_to, standing_to, stands_in}
 use Rattle.ca_monitor.specs.Subscriptions as monitor
-use Rattle.ca_requests.specs.Requests.{Request, answered_by}
+use Rattle.ca_requests.specs.Requests.{Asked, Request, answered_by}
 use Rattle.ca_requests.specs.Requests as request
 use Rattle.ca_text.specs.Command.{command_number}
 use Rattle.ca_text.specs.declared.command.Command.TheVariants as command
@@ -194,12 +194,12 @@ module _ (x : Client) (few : AreFew x) (f : ClientFits x) where
     without-sub : (s : Handle) → ClientFits (without_subscription s x)
     without-sub s = subscriptions-fit x (with_freed s x.subscriptions) (holds-freed SubscriptionFits x.subscriptions s f.subscriptions) f
 
-    completes-speaks : (q : Handle) (s : request.Stage) → Completes x m q s e → SpeaksWell e.core e.sent
-    completes-speaks q request.Open does = quiet-speaks (without_request q x) e _ (without-request q) does.2
-    completes-speaks q request.Draining does = quiet-speaks (without_request q x) e [] (without-request q) does
+    completes-speaks : (q : Handle) (a : Asked) (s : request.Stage) → Completes x m q a s e → SpeaksWell e.core e.sent
+    completes-speaks q a request.Open does = quiet-speaks (without_request q x) e _ (without-request q) does.2
+    completes-speaks q a request.Draining does = quiet-speaks (without_request q x) e [] (without-request q) does
 
     answers-speaks : (o : Option (Handle × Request)) → Answers x m o e → SpeaksWell e.core e.sent
-    answers-speaks (Some (q, r)) does = completes-speaks q r.stage does
+    answers-speaks (Some (q, r)) does = completes-speaks q r.asked r.stage does
     answers-speaks None is = quiet-speaks x e [] f is
 
     confirmed-speaks : (o : Option Handle) → e ≡ confirmed x o → SpeaksWell e.core e.sent

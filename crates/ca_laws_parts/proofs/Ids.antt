@@ -83,7 +83,7 @@ module _ (kept : List ℕ) (on : Handle) (n : Names) (x : Client) (c : Circuit) 
       speaks : (k : IsKnown n x on c m) → Speaks k.t.message (Ioid m.p2)
       speaks k = subst (λ (w : Fields). Speaks w (Ioid m.p2)) (sym k.is) (inl (is, refl))
 
-      go : (s : request.Stage) → Completes x m q s e → Did kept on n x c g e
+      go : (s : request.Stage) → Completes x m q r.asked s e → Did kept on n x c g e
       go Open done = ended-did m q r m.command m.p2 _ e k (reply-cause m is) speaks at done.2
       go Draining done = ended-did m q r m.command m.p2 [] e k (reply-cause m is) speaks at done
 

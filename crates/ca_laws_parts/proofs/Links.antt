@@ -7,7 +7,7 @@ use Rattle.std.proofs.lemmas.Bool.{both_ways}
 use Rattle.ca_arena.specs.declared.handle.Handle.{Handle}
 use Rattle.ca_dbr.specs.Elements.{Elements}
 use Rattle.ca_ids.specs.Table.{MayGive, Table, same_handle, under}
-use Rattle.ca_requests.specs.Requests.{Request, Stage}
+use Rattle.ca_requests.specs.Requests.{Asked, Request, Stage}
 use Rattle.ca_requests.specs.Requests as request
 use Rattle.ca_text.specs.Command.{command_number}
 use Rattle.ca_text.specs.declared.command.Command.TheVariants as command
@@ -290,12 +290,12 @@ module _ (x : Client) (c : Handle) (m : Fields) (e : Effect) where
   write-failed-goes (Some (h, Clearing)) is = effect-same x x e [] [] refl is
   write-failed-goes (Some (h, Doomed)) is = effect-same x x e [] [] refl is
 
-  completes-goes : (q : Handle) (s : Stage) → Completes x m q s e → AllGoOn x e.core e.sent
-  completes-goes q request.Open does = effect-same x _ e [] _ refl does.2
-  completes-goes q request.Draining does = effect-same x _ e [] [] refl does
+  completes-goes : (q : Handle) (a : Asked) (s : Stage) → Completes x m q a s e → AllGoOn x e.core e.sent
+  completes-goes q a request.Open does = effect-same x _ e [] _ refl does.2
+  completes-goes q a request.Draining does = effect-same x _ e [] [] refl does
 
   answers-goes : (o : Option (Handle × Request)) → Answers x m o e → AllGoOn x e.core e.sent
-  answers-goes (Some (q, r)) does = completes-goes q r.stage does
+  answers-goes (Some (q, r)) does = completes-goes q r.asked r.stage does
   answers-goes None is = effect-same x x e [] [] refl is
 
   confirmed-goes : (o : Option Handle) → e ≡ confirmed x o → AllGoOn x e.core e.sent

@@ -13,7 +13,7 @@ use Rattle.ca_arena.specs.declared.handle.Handle.{Handle}
 use Rattle.ca_ids.specs.Table.{Table, held, same_handle, under, with_changed, with_freed}
 use Rattle.ca_ids.specs.Wire.{wire_of}
 use Rattle.ca_monitor.specs.Subscriptions.{Subscription, confirmed_by, drains_in, is_to, standing_to, stands_in}
-use Rattle.ca_requests.specs.Requests.{Request, answered_by, asks_on}
+use Rattle.ca_requests.specs.Requests.{Asked, Request, answered_by, asks_on}
 use Rattle.ca_requests.specs.Requests as request
 use Rattle.ca_wire.specs.declared.header.Header.{Header}
 use Rattle.ca_wire.specs.Fields.{Fields}
@@ -213,13 +213,13 @@ module _ (on : Handle) (x : Client) (c : Handle) (m : Fields) (e : Conduct) (hea
     cancelled = cancels-there x.subscriptions (with_freed g x.subscriptions) (λ k v is. (freed-back x.subscriptions k g v is).1);
   }
 
-  read-completes : Known on x e → (q : Handle) (s : request.Stage) → Completes x m q s f → Then
-  read-completes known q request.Open does = quiet known _ does.2 refl (backs-request q)
-  read-completes known q request.Draining does = quiet known _ does refl (backs-request q)
+  read-completes : Known on x e → (q : Handle) (a : Asked) (s : request.Stage) → Completes x m q a s f → Then
+  read-completes known q a request.Open does = quiet known _ does.2 refl (backs-request q)
+  read-completes known q a request.Draining does = quiet known _ does refl (backs-request q)
 
   read-reply : Known on x e → (o : Option (Handle × Request)) → Answers x m o f → Then
   read-reply known None does = nothing known (becomes x) does refl refl
-  read-reply known (Some (q, r)) does = read-completes known q r.stage does
+  read-reply known (Some (q, r)) does = read-completes known q r.asked r.stage does
 
   read-confirmed : Known on x e → (o : Option Handle) → f ≡ confirmed x o → Then
   read-confirmed known None does = nothing known (becomes x) does refl refl

@@ -407,7 +407,7 @@ module _ (on : Handle) (x : Client) (e : Effect) (c : Handle) (m : Fields) where
   }
 
   rests-completes : (q : Handle) (r : Request) → under x.requests q ≡ Some r → was_sent_on c r ≡ true → FreesIoid on x m q r → (s : request.Stage)
-      → Completes x m q s e → RestsBut on c m x e.core
+      → Completes x m q r.asked s e → RestsBut on c m x e.core
   rests-completes q r there sent frees request.Open done = frees-so _ (without_request q x) done.2 (over-request q r there sent frees)
   rests-completes q r there sent frees request.Draining done = frees-so [] (without_request q x) done (over-request q r there sent frees)
 

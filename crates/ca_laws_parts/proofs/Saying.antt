@@ -17,7 +17,7 @@ use Rattle.ca_link.specs.declared.keep.Keep.TheVariants.{Close, Echo, Idle}
 use Rattle.ca_link.specs.Link.{kept}
 use Rattle.ca_monitor.specs.ReadRun.{after_read, asked_between, sent_by_read}
 use Rattle.ca_monitor.specs.Subscriptions.{Subscription, is_to, standing_to, stands_in}
-use Rattle.ca_requests.specs.Requests.{Request, answered_by}
+use Rattle.ca_requests.specs.Requests.{Asked, Request, answered_by}
 use Rattle.ca_requests.specs.Requests as request
 use Rattle.ca_search.specs.Searches as search
 use Rattle.ca_wire.specs.declared.header.Header.{Header}
@@ -287,13 +287,13 @@ module _ (x : Client) (c : Handle) (m : Fields) (e : Effect) where
   hear-any None = none-other
   hear-any (Some (q, r)) = hear-request q r.stage
 
-  hear-completes : (q : Handle) (s : request.Stage) → Completes x m q s e → AreOther e.sent
-  hear-completes q request.Open does = sends _ does.2 none-other
-  hear-completes q request.Draining does = sends _ does none-other
+  hear-completes : (q : Handle) (a : Asked) (s : request.Stage) → Completes x m q a s e → AreOther e.sent
+  hear-completes q a request.Open does = sends _ does.2 none-other
+  hear-completes q a request.Draining does = sends _ does none-other
 
   hear-reply : (o : Option (Handle × Request)) → Answers x m o e → AreOther e.sent
   hear-reply None does = sends (becomes x) does none-other
-  hear-reply (Some (q, r)) does = hear-completes q r.stage does
+  hear-reply (Some (q, r)) does = hear-completes q r.asked r.stage does
 
   hear-update : (o : Option Handle) → Updates x m o e → AreOther e.sent
   hear-update None does = sends (becomes x) does none-other

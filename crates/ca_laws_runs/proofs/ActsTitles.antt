@@ -315,7 +315,7 @@ module _ (gone may : Handle → Type 0) (so : (h : Handle) → gone h → may h)
       titled-reply m e None is = nothing [] e is
       titled-reply m e (Some (q, r)) is = go r.stage is
         where
-          go : (s : request.Stage) → Completes x m q s e → Titled gone may x e.sent e.core
+          go : (s : request.Stage) → Completes x m q r.asked s e → Titled gone may x e.sent e.core
           go request.Open did = beside (without_request q x) _ e did.2 refl
           go request.Draining did = beside (without_request q x) [] e did refl
 

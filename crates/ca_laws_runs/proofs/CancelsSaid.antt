@@ -12,7 +12,7 @@ use Rattle.ca_arena.specs.declared.handle.Handle.{Handle}
 use Rattle.ca_dbr.specs.Elements.{Elements}
 use Rattle.ca_ids.specs.Table.{held, same_handle, under}
 use Rattle.ca_ids.specs.Wire.{wire_of}
-use Rattle.ca_requests.specs.Requests.{Request, answered_by}
+use Rattle.ca_requests.specs.Requests.{Asked, Request, answered_by}
 use Rattle.ca_requests.specs.Requests as request
 use Rattle.ca_monitor.specs.Subscriptions.{Subscription, confirmed_by, standing_to, stands_in}
 use Rattle.ca_wire.specs.declared.header.Header.{Header}
@@ -206,13 +206,13 @@ module _ (x : Client) (e : Effect) where
     plain-left (Some (h, Creating rights)) is = none (becomes x) is refl
     plain-left (Some (h, Live native rights)) is = so (clear_sent c native.sid h ∷ []) _ _ is (plain-clear c native.sid h)
 
-    plain-completes : (q : Handle) (s : request.Stage) → Completes x m q s e → AllPlain e.sent
-    plain-completes q request.Open done = so [] _ _ done.2 plain-nil
-    plain-completes q request.Draining done = so [] _ _ done plain-nil
+    plain-completes : (q : Handle) (a : Asked) (s : request.Stage) → Completes x m q a s e → AllPlain e.sent
+    plain-completes q a request.Open done = so [] _ _ done.2 plain-nil
+    plain-completes q a request.Draining done = so [] _ _ done plain-nil
 
     plain-reply : (o : Option (Handle × Request)) → Answers x m o e → AllPlain e.sent
     plain-reply None is = none (becomes x) is refl
-    plain-reply (Some (q, r)) is = plain-completes q r.stage is
+    plain-reply (Some (q, r)) is = plain-completes q r.asked r.stage is
 
     confirmed-none : (o : Option Handle) → (confirmed x o).sent ≡ []
     confirmed-none None = refl

@@ -14,6 +14,7 @@ use Rattle.ca_monitor.specs.Subscriptions.{Stage, Stands, Subscription, confirme
 use Rattle.ca_requests.specs.Meaning.{Means, QuotesHeader}
 use Rattle.ca_requests.specs.Requests.{Asked, Request, answered_by, asks_on, command_of, in_order_of_issue, was_sent_on}
 use Rattle.ca_requests.specs.Requests as request
+use Rattle.ca_requests.proofs.Meanings.{means-of}
 use Rattle.ca_wire.specs.declared.header.Header.{Header}
 use Rattle.ca_wire.specs.Fields.{Fields}
 use Rattle.ca_model.specs.Answers.{Notice}
@@ -196,11 +197,11 @@ module _ (kept : List ℕ) (n : Names) (x : Client) (on : Handle) (c : Circuit) 
   tells-reply e None is found does = silent e (made-of e _ does)
   tells-reply e (Some (q, r)) is found does = go r.stage does
     where
-      go : (stage : request.Stage) → Completes x m q stage e → Tells e
+      go : (stage : request.Stage) → Completes x m q r.asked stage e → Tells e
       go request.Open done =
           let f = answered-is on m.command m.p2 x.requests q r found in
           let speaks : Speaks m (Ioid (wire_of q)) = inl (is, sym f.1) in
-          one-told e (notice.Completed q done.0) (made-of e _ done.2) (inl (request-of q r f.0 f.2 speaks, done.1))
+          one-told e (notice.Completed q done.0) (made-of e _ done.2) (inl (request-of q r f.0 f.2 speaks, means-of r.asked m done.0 done.1))
       go request.Draining done = silent e (made-of e _ done)
 
   tells-confirmed : (e : Effect) (o : Option Handle) → e ≡ confirmed x o → Tells e
@@ -216,7 +217,7 @@ module _ (kept : List ℕ) (n : Names) (x : Client) (on : Handle) (c : Circuit) 
   -- ---- ERROR
 
   error-means : Is command.Error m → Means m (outcome.Failed (record { number = m.p2 }))
-  error-means is = inr (inr (inr (is, refl)))
+  error-means is = inr (inr (inr (inl (is, refl))))
 
   tells-write : (h : Header) (e : Effect) (o : Option (Handle × Phase)) → Is command.Error m → QuotesHeader m h → h.command ≡ 4 → channel_on x on m.p1 ≡ o → e ≡ write_failed x m o → Tells e
   tells-write h e None errs quotes writes found is = silent e (made-of e _ is)

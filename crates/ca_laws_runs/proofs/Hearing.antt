@@ -114,7 +114,7 @@ module _ (n : Names) (x : Client) (numbered : AreNumbered n x) (on : Handle) whe
     spoken-reply m e None is = nothing [] e is
     spoken-reply m e (Some (q, r)) is = go r.stage is
       where
-        go : (s : request.Stage) → Completes x m q s e → Spoken e
+        go : (s : request.Stage) → Completes x m q r.asked s e → Spoken e
         go request.Open done = quietly (without_request q x) _ e done.2 (live-itself on x.channels)
         go request.Draining done = quietly (without_request q x) [] e done (live-itself on x.channels)
 

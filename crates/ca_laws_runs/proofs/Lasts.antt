@@ -12,7 +12,7 @@ use Rattle.ca_link.specs.declared.keep.Keep.TheVariants.{Close, Echo, Idle}
 use Rattle.ca_link.specs.Link.{kept, with_handed}
 use Rattle.ca_monitor.specs.Subscriptions.{Stage, Subscription, confirmed_by, drains_in, is_cancelled_in, is_to, stands_in, with_stage}
 use Rattle.ca_monitor.specs.Subscriptions as monitor
-use Rattle.ca_requests.specs.Requests.{Request, answered_by}
+use Rattle.ca_requests.specs.Requests.{Asked, Request, answered_by}
 use Rattle.ca_requests.specs.Requests as request
 use Rattle.ca_search.specs.Searches as search
 use Rattle.ca_text.specs.declared.command.Command.TheVariants as command
@@ -322,13 +322,13 @@ module _ (x : Client) (e : Effect) where
         let y : Client = with_requests (request.channel_over h x.requests) x in
         does-so _ _ (with_standing (On c Leaving) h y) is (lasts-then x y (with_standing (On c Leaving) h y) (lasts-same x y refl refl) (lasts-stood h y (On c Leaving) refl))
 
-    lasts-completes : (q : Handle) (s : request.Stage) → Completes x m q s e → LastsIn x e.notices e.core
-    lasts-completes q request.Open done = does-so [] _ (without_request q x) done.2 (lasts-same x (without_request q x) refl refl)
-    lasts-completes q request.Draining done = does-so [] [] (without_request q x) done (lasts-same x (without_request q x) refl refl)
+    lasts-completes : (q : Handle) (a : Asked) (s : request.Stage) → Completes x m q a s e → LastsIn x e.notices e.core
+    lasts-completes q a request.Open done = does-so [] _ (without_request q x) done.2 (lasts-same x (without_request q x) refl refl)
+    lasts-completes q a request.Draining done = does-so [] [] (without_request q x) done (lasts-same x (without_request q x) refl refl)
 
     lasts-reply : (o : Option (Handle × Request)) → Answers x m o e → LastsIn x e.notices e.core
     lasts-reply None is = nothing [] is
-    lasts-reply (Some (q, r)) is = lasts-completes q r.stage is
+    lasts-reply (Some (q, r)) is = lasts-completes q r.asked r.stage is
 
     lasts-confirmed : (o : Option Handle) → confirmed_by c m.p2 x.subscriptions ≡ o → e ≡ confirmed x o → LastsIn x e.notices e.core
     lasts-confirmed None at is = nothing [] is

@@ -227,7 +227,7 @@ module _ (n : Names) (x : Client) (t : Tidy n x) where
     moved-reply m e None is = nothing [] e is
     moved-reply m e (Some (q, r)) is = go r.stage is
       where
-        go : (s : request.Stage) → Completes x m q s e → Moved n x n e.sent n e.core
+        go : (s : request.Stage) → Completes x m q r.asked s e → Moved n x n e.sent n e.core
         go request.Open done = quietly (without_request q x) _ e done.2 (less-request q)
         go request.Draining done = quietly (without_request q x) [] e done (less-request q)
 

@@ -208,6 +208,7 @@ gone-or : (o : Outcome) → (o ≡ outcome.Disconnected) ⊎ (o ≡ outcome.Disc
 gone-or outcome.Disconnected = inl refl
 gone-or outcome.Done = inr (λ e. cc)
 gone-or (outcome.Value v m) = inr (λ e. cc)
+gone-or (outcome.Displayed v m d) = inr (λ e. cc)
 gone-or (outcome.Failed st) = inr (λ e. cc)
 gone-or (outcome.Unreadable r) = inr (λ e. cc)
 

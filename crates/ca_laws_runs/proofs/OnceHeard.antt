@@ -138,7 +138,7 @@ module _ (x : Client) (e : Effect) (less : Less x e.core) where
     told-cleared (Some (h, Clearing)) is = (let y : Client = without_drained c h x in still [] [] (without_channel y h) is (asks-then x y (without_channel y h) (drained h) (asks-same y (without_channel y h) refl refl)) none-told)
     told-cleared (Some (h, Leaving)) is = (let y : Client = without_drained c h x in still [] [] (searched_again y h) is (asks-then x y (searched_again y h) (drained h) (asks-same y (searched_again y h) refl refl)) none-told)
 
-    told-completes : (m : Fields) (q : Handle) (r : Request) → under x.requests q ≡ Some r → (s : request.Stage) → r.stage ≡ s → Completes x m q s e → Told x e.notices e.core
+    told-completes : (m : Fields) (q : Handle) (r : Request) → under x.requests q ≡ Some r → (s : request.Stage) → r.stage ≡ s → Completes x m q r.asked s e → Told x e.notices e.core
     told-completes m q r there request.Open stage done =
         subst (λ (w : Effect). Less x w.core → Told x w.notices w.core) (sym done.2)
         (λ l. told-one x (hears.without_request q x) q done.0 (asks-freed q x) l (r, there, ap is_open_in stage) (λ o. (freed-back x.requests q q o.0 o.1).0 refl)) less

@@ -174,7 +174,7 @@ module _ (x : Client) where
     moved-reply m e None is = nothing [] e is
     moved-reply m e (Some (q, r)) is = go r.stage is
       where
-        go : (s : request.Stage) → Completes x m q s e → Moved x e.sent e.core
+        go : (s : request.Stage) → Completes x m q r.asked s e → Moved x e.sent e.core
         go request.Open done = quietly (without_request q x) _ e done.2 (less-request q)
         go request.Draining done = quietly (without_request q x) [] e done (less-request q)
 

@@ -10,7 +10,7 @@ use Rattle.ca_link.specs.declared.keep.Keep.TheVariants.{Close, Echo, Idle}
 use Rattle.ca_link.specs.Link.{kept, with_handed}
 use Rattle.ca_monitor.specs.Subscriptions.{confirmed_by}
 use Rattle.ca_monitor.specs.Subscriptions as monitor
-use Rattle.ca_requests.specs.Requests.{Request, answered_by, asks_on, is_open_in, was_sent_on}
+use Rattle.ca_requests.specs.Requests.{Asked, Request, answered_by, asks_on, is_open_in, was_sent_on}
 use Rattle.ca_requests.specs.Requests as request
 use Rattle.ca_search.specs.Searches as search
 use Rattle.ca_text.specs.declared.command.Command.TheVariants as command
@@ -268,13 +268,13 @@ module _ (x : Client) (e : Effect) where
         let z : Client = with_standing (On c Leaving) h (with_requests (request.channel_over h x.requests) x) in
         does-so _ _ z is (opens-spent (On c Leaving) h x z refl refl)
 
-    opens-completes : (q : Handle) (s : request.Stage) → Completes x m q s e → Opens x e.core
-    opens-completes q request.Open done = does-so [] _ (without_request q x) done.2 (opens-freed q x)
-    opens-completes q request.Draining done = does-so [] [] (without_request q x) done (opens-freed q x)
+    opens-completes : (q : Handle) (a : Asked) (s : request.Stage) → Completes x m q a s e → Opens x e.core
+    opens-completes q a request.Open done = does-so [] _ (without_request q x) done.2 (opens-freed q x)
+    opens-completes q a request.Draining done = does-so [] [] (without_request q x) done (opens-freed q x)
 
     opens-reply : (o : Option (Handle × Request)) → Answers x m o e → Opens x e.core
     opens-reply None is = nothing [] is
-    opens-reply (Some (q, r)) is = opens-completes q r.stage is
+    opens-reply (Some (q, r)) is = opens-completes q r.asked r.stage is
 
     opens-confirmed : (o : Option Handle) → e ≡ confirmed x o → Opens x e.core
     opens-confirmed None is = nothing [] is

@@ -12,7 +12,7 @@ use Rattle.ca_link.specs.declared.keep.Keep.TheVariants.{Close, Echo, Idle}
 use Rattle.ca_link.specs.Link.{kept, with_handed}
 use Rattle.ca_monitor.specs.Subscriptions.{Stage, Subscription, confirmed_by, drains_in, is_to, stage_over, standing_to, stands_in, with_stage}
 use Rattle.ca_monitor.specs.Subscriptions as monitor
-use Rattle.ca_requests.specs.Requests.{Request, answered_by}
+use Rattle.ca_requests.specs.Requests.{Asked, Request, answered_by}
 use Rattle.ca_requests.specs.Requests as request
 use Rattle.ca_search.specs.Searches as search
 use Rattle.ca_text.specs.declared.command.Command.TheVariants as command
@@ -285,13 +285,13 @@ module _ (x : Client) (e : Effect) where
         let y : Client = with_requests (request.channel_over h x.requests) x in
         does-so _ _ (with_standing (On c Leaving) h y) is (stays-then x y (with_standing (On c Leaving) h y) (stays-same x y refl refl) (stays-phase h y c Leaving refl))
 
-    adds-completes : (q : Handle) (s : request.Stage) → Completes x m q s e → Adds x e.sent e.core
-    adds-completes q request.Open done = does-so [] _ (without_request q x) done.2 (stays-same x (without_request q x) refl refl)
-    adds-completes q request.Draining done = does-so [] [] (without_request q x) done (stays-same x (without_request q x) refl refl)
+    adds-completes : (q : Handle) (a : Asked) (s : request.Stage) → Completes x m q a s e → Adds x e.sent e.core
+    adds-completes q a request.Open done = does-so [] _ (without_request q x) done.2 (stays-same x (without_request q x) refl refl)
+    adds-completes q a request.Draining done = does-so [] [] (without_request q x) done (stays-same x (without_request q x) refl refl)
 
     adds-reply : (o : Option (Handle × Request)) → Answers x m o e → Adds x e.sent e.core
     adds-reply None is = nothing [] is
-    adds-reply (Some (q, r)) is = adds-completes q r.stage is
+    adds-reply (Some (q, r)) is = adds-completes q r.asked r.stage is
 
     adds-confirmed : (o : Option Handle) → e ≡ confirmed x o → Adds x e.sent e.core
     adds-confirmed None is = nothing [] is

@@ -136,7 +136,7 @@ module _ (x : Client) (c : Handle) (m : Fields) where
       replies : Is command.ReadNotify m ⊎ (Is command.WriteNotify m ⊎ Is command.Error m)
       replies = elim is [ inl reads ↦ inl reads | inr puts ↦ inr (inl puts) ]
 
-      go : (s : request.Stage) → r.stage ≡ s → Completes x m q s e → Tells e
+      go : (s : request.Stage) → r.stage ≡ s → Completes x m q r.asked s e → Tells e
       go request.Open stage done =
           let f = answered-is c number m.p2 x.requests q r found in
           alone (notice.Completed q done.0) e (made-of e _ done.2) (inl (refl, replies, (r, f.0, f.2, ap is_open_in stage)))

@@ -155,7 +155,7 @@ module _ (x : Client) (c : Handle) (m : Fields) where
   told-reply e None is = quiet e _ is no-notices
   told-reply e (Some (q, r)) is = go r.stage is
     where
-      go : (s : request.Stage) → Completes x m q s e → Tells e
+      go : (s : request.Stage) → Completes x m q r.asked s e → Tells e
       go request.Open done = quiet e _ done.2 (one-notice (notice.Completed q done.0) refl)
       go request.Draining done = quiet e _ done no-notices
 

@@ -149,7 +149,7 @@ module _ (c : Handle) (x : Client) where
   reply-keeps m e None is = keeps-doing x x [] [] e is (keeps-itself x)
   reply-keeps m e (Some (q, r)) is = go r.stage is
     where
-      go : (s : request.Stage) → Completes x m q s e → Keeps x e.core
+      go : (s : request.Stage) → Completes x m q r.asked s e → Keeps x e.core
       go request.Open done = keeps-doing x (without_request q x) [] _ e done.2 (keeps-request q x)
       go request.Draining done = keeps-doing x (without_request q x) [] [] e done (keeps-request q x)
 

@@ -18,7 +18,7 @@ use Rattle.ca_dbr.specs.declared.data_type.Form.{Form}
 use Rattle.ca_dbr.specs.declared.data_type.Form.TheVariants as form
 use Rattle.ca_dbr.specs.declared.value.Meta.{Meta}
 use Rattle.ca_dbr.specs.Conversion.{first_and, gathered, then_elements}
-use Rattle.ca_dbr.specs.Display.{DisplayData, IsData}
+use Rattle.ca_dbr.specs.DisplayData.{DisplayData, IsData}
 use Rattle.ca_dbr.specs.Elements.{Elements, strings, ints, floats, enums, chars, longs, doubles, displayed, base_of, bytes_of, count_of, IsValue}
 use Rattle.ca_dbr.specs.Elements.{byte_1, bytes_2, bytes_4, bytes_8, signed_bytes_2, signed_bytes_4}
 use Rattle.ca_dbr.specs.Held.{IsHeldValue, bare, display_of}
@@ -37,7 +37,7 @@ use Rattle.ca_display.specs.declared.display_type.DisplayType.{DisplayType}
 use Rattle.ca_display.specs.declared.image_type.ImageType.{ImageType}
 use Rattle.ca_display.specs.declared.image_type.ImageType.TheVariants as any
 use Rattle.ca_display.specs.Conversion.{display_shown, double_shown, enum_text, float_shown}
-use Rattle.ca_display.specs.Data.{in_field}
+use Rattle.ca_dbr.specs.Data.{in_field}
 use Rattle.ca_display.specs.Image.{data_bytes, image_in, size_in}
 use Rattle.ca_display.specs.Real.{in_string, places_of, real_text, signed_units, units_text}
 use Rattle.ca_display.specs.States.{name_or, state_text}

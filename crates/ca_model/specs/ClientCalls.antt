@@ -116,17 +116,22 @@ pub record Shape : Type 0 where
   pub data_type : ℕ
   pub count : ℕ
 
--- why a read or a subscription is refused, while the table of its ids is full or not
-abbrev pub ask_fault : Client → (full : Bool) → Handle → Shape → Option Refusal
-ask_fault x full h a =
+-- why a read or a subscription is refused, of a type that is bad or not, while the table of its ids
+-- is full or not
+abbrev pub typed_fault : (bad : Bool) → Client → (full : Bool) → Handle → Shape → Option Refusal
+typed_fault bad x full h a =
     fault_at
-    (λ (l : LiveChannel). (is_none (type_of a.data_type), refusal.BadType)
+    (λ (l : LiveChannel). (bad, refusal.BadType)
     ∷ (not (may_read l.rights), refusal.NoAccess)
     ∷ (nat_lt l.native.count a.count, refusal.BadCount)
     ∷ (is_over x l.circuit, refusal.OutputFull)
     ∷ (full, refusal.ArenaFull)
     ∷ [])
     (standing_at x h)
+
+-- why a read or a subscription is refused
+abbrev pub ask_fault : Client → (full : Bool) → Handle → Shape → Option Refusal
+ask_fault x full h a = typed_fault (is_none (type_of a.data_type)) x full h a
 
 -- a value with no element, with more than its channel takes, or with more bytes than a payload has
 abbrev pub is_misfit : Native → Elements → Bool
@@ -167,15 +172,31 @@ read_sent h l a q = record {
 abbrev pub read_fault : Client → Handle → Shape → Option Refusal
 read_fault x h a = ask_fault x (is_full x.requests) h a
 
--- `read`. A request takes memory.
+-- why a read with display data is refused: its type is from 21 to 34
+abbrev pub display_fault : Client → Handle → Shape → Option Refusal
+display_fault x h a =
+    typed_fault (nat_lt a.data_type 21 || nat_lt 34 a.data_type) x (is_full x.requests) h a
+
+-- A read is sent, or is refused for this fault. A request takes memory.
+abbrev pub ReadsUnless : Option Refusal → Client → Handle → Shape → Result Handle Refusal
+    → List Sending → Client → Type 0
+ReadsUnless fault old h a (Ok q) sent new =
+    (l : LiveChannel) × IsLive old h l × (fault ≡ None) × MayGive old.requests q
+    × Does (read_sent h l a q ∷ []) (issued h l (request.Read a.data_type a.count) q old) sent new
+ReadsUnless fault old h a (Err refusal.OutOfMemory) sent new =
+    (fault ≡ None) × IsUnchanged old sent new
+ReadsUnless fault old h a (Err e) sent new = (fault ≡ Some e) × IsUnchanged old sent new
+
+-- `read`
 abbrev pub ClientReads : Client → Handle → Shape → Result Handle Refusal → List Sending → Client
     → Type 0
-ClientReads old h a (Ok q) sent new =
-    (l : LiveChannel) × IsLive old h l × (read_fault old h a ≡ None) × MayGive old.requests q
-    × Does (read_sent h l a q ∷ []) (issued h l (request.Read a.data_type a.count) q old) sent new
-ClientReads old h a (Err refusal.OutOfMemory) sent new =
-    (read_fault old h a ≡ None) × IsUnchanged old sent new
-ClientReads old h a (Err e) sent new = (read_fault old h a ≡ Some e) × IsUnchanged old sent new
+ClientReads old h a result sent new = ReadsUnless (read_fault old h a) old h a result sent new
+
+-- `read_display`
+abbrev pub ClientReadsDisplay : Client → Handle → Shape → Result Handle Refusal → List Sending
+    → Client → Type 0
+ClientReadsDisplay old h a result sent new =
+    ReadsUnless (display_fault old h a) old h a result sent new
 
 -- what a write of these elements names, under this id
 abbrev pub wanted_by_put : LiveChannel → Elements → ℕ → Wanted

@@ -15,8 +15,8 @@ use Rattle.ca_ids.specs.Wire.{wire_of}
 use Rattle.ca_wire.specs.declared.header.Header.{Header}
 use Rattle.ca_wire.specs.Fields.{Fields}
 use Rattle.ca_wire.specs.Messages.{create_request}
-use Rattle.ca_requests.specs.Meaning.{Means, QuotesHeader}
-use Rattle.ca_requests.specs.Requests.{Request, Stage, answered_by, asks_on}
+use Rattle.ca_requests.specs.Meaning.{Means, MeansTo, QuotesHeader}
+use Rattle.ca_requests.specs.Requests.{Asked, Request, Stage, answered_by, asks_on}
 use Rattle.ca_requests.specs.Requests as request
 use Rattle.ca_monitor.specs.Subscriptions.{Subscription, confirmed_by, standing_by, standing_to}
 use Rattle.ca_monitor.specs.Subscriptions as monitor
@@ -173,14 +173,15 @@ without_subscription s x = record x { subscriptions = with_freed s x.subscriptio
 
 -- A reply completes an open request with the outcome that it means, and ends the
 -- draining of an IOID.
-abbrev pub Completes : Client → Fields → Handle → Stage → Effect → Type 0
-Completes x m q request.Open e =
-    (o : Outcome) × Means m o × (e ≡ doing [] (notice.Completed q o ∷ []) (without_request q x))
-Completes x m q request.Draining e = e ≡ becomes (without_request q x)
+abbrev pub Completes : Client → Fields → Handle → Asked → Stage → Effect → Type 0
+Completes x m q asked request.Open e =
+    (o : Outcome) × MeansTo asked m o
+    × (e ≡ doing [] (notice.Completed q o ∷ []) (without_request q x))
+Completes x m q asked request.Draining e = e ≡ becomes (without_request q x)
 
 -- READ_NOTIFY and WRITE_NOTIFY ("CA_PROTO_READ_NOTIFY", "CA_PROTO_WRITE_NOTIFY")
 abbrev pub Answers : Client → Fields → Option (Handle × Request) → Effect → Type 0
-Answers x m (Some (q, r)) e = Completes x m q r.stage e
+Answers x m (Some (q, r)) e = Completes x m q r.asked r.stage e
 Answers x m None e = e ≡ becomes x
 
 -- An EVENT_ADD without payload confirms a cancel ("CA_PROTO_EVENT_CANCEL").

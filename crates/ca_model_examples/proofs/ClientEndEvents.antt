@@ -122,7 +122,7 @@ step-hears = (
       answer.Notices (answer.Completed first outcome.Done ∷ []),
       [],
       _,
-      record { m = put_reply; rest = []; first = (spelling put_reply, spelling-spells put_reply good-reply, refl); hears = hears.Reply (inr refl) (outcome.Done, inr (inl (refl, refl)), refl) },
+      record { m = put_reply; rest = []; first = (spelling put_reply, spelling-spells put_reply good-reply, refl); hears = hears.Reply (inr refl) (outcome.Done, (refl, refl), refl) },
       refl,
     ),
   ),

@@ -94,7 +94,7 @@ UpdateElsewhere = subscription_on subscribed second 65536 ≡ None
 -- The reply to a request that is over tells nothing, and its IOID drains no more.
 abbrev pub LateReplyDrains : Type 0
 LateReplyDrains =
-    Completes leaving.core put_reply first request.Draining
+    Completes leaving.core put_reply first request.Put request.Draining
     (becomes (without_request first leaving.core))
     × (held (without_request first leaving.core).requests ≡ [])
 

@@ -4,7 +4,7 @@ use Rattle.std.proofs.lemmas.List.{length-map, length_push}
 use Rattle.std.specs.declared.alloc.AllocError.{AllocError}
 use Rattle.ca_arena.specs.declared.handle.Handle.{Handle}
 use Rattle.ca_dbr.specs.declared.value.Meta.{Meta}
-use Rattle.ca_dbr.specs.Display.{DisplayData}
+use Rattle.ca_dbr.specs.DisplayData.{DisplayData}
 use Rattle.ca_dbr.specs.Elements.{Elements, displayed}
 use Rattle.ca_dbr.specs.Held.{bare}
 use Rattle.ca_text.specs.declared.refusal.Refusal.{Refusal}

@@ -3,7 +3,7 @@ use Rattle.std.proofs.Common.{◌≡◌, ◌≢◌, Option, Some, None, Result, 
 use Rattle.ca_text.specs.declared.refusal.Refusal.{Refusal}
 use Rattle.ca_dbr.specs.declared.data_type.BaseType.{BaseType}
 use Rattle.ca_dbr.specs.declared.value.Value.{Value}
-use Rattle.ca_dbr.specs.Display.{DisplayData, IsData}
+use Rattle.ca_dbr.specs.DisplayData.{DisplayData, IsData}
 use Rattle.ca_dbr.specs.Elements.{Elements, strings, ints, floats, enums, chars, longs, doubles, displayed, elements, base_of, count_of, IsValue}
 use Rattle.ca_dbr.specs.Conversion.{converted}
 use Rattle.ca_dbr.specs.Held.{IsHeldValue, Kind, bare, display_of, displayed_by, kind_of}

@@ -2,7 +2,7 @@
 use Rattle.std.proofs.Common.{◌≡◌, ◌⊎◌, inl, inr, Bool, true, false, not, List, [], ◌∷◌, ◌++◌, filter, map, Option, Some, refl, ap, ◌∙◌, ℕ, ◌<◌, get_or, length, subst, sym, arith}
 use Rattle.std.proofs.lemmas.List.{length-map}
 use Rattle.ca_dbr.specs.declared.data_type.BaseType.{BaseType}
-use Rattle.ca_dbr.specs.Display.{DisplayData, IsData}
+use Rattle.ca_dbr.specs.DisplayData.{DisplayData, IsData}
 use Rattle.ca_dbr.specs.Elements.{Elements, strings, ints, floats, enums, chars, longs, doubles, displayed, elements, base_of, IsValue}
 use Rattle.ca_dbr.specs.Held.{IsHeldValue, Kind, bare, display_of, displayed_by}
 use Rattle.ca_dbr.proofs.Helds.{bare-alone, count_of-bare, display_of-valued}

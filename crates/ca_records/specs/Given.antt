@@ -1,7 +1,7 @@
 -- Vocabulary: the elements of a write as a value of a record (section "CA_PROTO_WRITE").
 use Rattle.std.specs.Prelude.{Option, Some, None, Result}
 use Rattle.ca_text.specs.declared.refusal.Refusal.{Refusal}
-use Rattle.ca_dbr.specs.Display.{DisplayData}
+use Rattle.ca_dbr.specs.DisplayData.{DisplayData}
 use Rattle.ca_dbr.specs.Elements.{Elements}
 use Rattle.ca_dbr.specs.Conversion.{with_data}
 use Rattle.ca_dbr.specs.Held.{Kind, bare}

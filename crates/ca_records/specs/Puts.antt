@@ -5,7 +5,7 @@ use Rattle.std.specs.Prelude.{if◌then◌else◌, length, map}
 use Rattle.std.specs.List.{sum_by}
 use Rattle.std.specs.Str.{bytes_eq}
 use Rattle.ca_dbr.specs.declared.value.Meta.{Meta}
-use Rattle.ca_dbr.specs.Display.{DisplayData}
+use Rattle.ca_dbr.specs.DisplayData.{DisplayData}
 use Rattle.ca_dbr.specs.Elements.{Elements, displayed}
 use Rattle.ca_dbr.specs.Held.{bare, display_of}
 use Rattle.ca_display.specs.Alarm.{alarm_by}

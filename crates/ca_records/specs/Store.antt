@@ -3,7 +3,7 @@ use Rattle.std.specs.Prelude.{ℕ, ◌≡◌, ◌<◌, ◌≤◌, ◌⊎◌, ◌
 use Rattle.std.specs.Prelude.{length, map, option_to_list, slice_set}
 use Rattle.std.specs.List.{flat_map}
 use Rattle.ca_text.specs.Place.{At}
-use Rattle.ca_dbr.specs.Display.{DisplayData}
+use Rattle.ca_dbr.specs.DisplayData.{DisplayData}
 use Rattle.ca_dbr.specs.Elements.{Elements, count_of}
 use Rattle.ca_dbr.specs.Held.{display_of}
 use Rattle.ca_records.specs.declared.puts.Stamp.{Stamp}

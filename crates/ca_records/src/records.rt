@@ -6,13 +6,13 @@ ghost use Rattle.ca_text.specs.Place.{At};
 ghost use Rattle.ca_text.specs.declared.refusal.Refusal.TheVariants.{UnknownRecord};
 ghost use Rattle.std.specs.Arc.{arc_value};
 ghost use Rattle.ca_dbr.specs.Elements.{displayed, elements};
-ghost use Rattle.ca_display.specs.Data.{data_of};
+ghost use Rattle.ca_dbr.specs.Data.{data_of};
 ghost use Rattle.ca_records.specs.Record.{unset};
 ghost use Rattle.ca_records.specs.Records.{AreApart, Defines, Holds, IsServed, Names};
 
 use crate::record::{Record, check};
-use ca_dbr::{Meta, Value};
-use ca_display::{Display, Held};
+use ca_dbr::{Display, Meta, Value};
+use ca_display::Held;
 use ca_text::Refusal;
 use std::alloc::{AllocError, Global};
 use std::collections::BTreeMap;

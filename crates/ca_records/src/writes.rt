@@ -4,7 +4,7 @@ ghost use Rattle.std.specs.Prelude.{◌≡◌, false, true};
 ghost use Rattle.std.specs.Arc.{arc_value};
 ghost use Rattle.ca_dbr.specs.Elements.{elements};
 ghost use Rattle.ca_dbr.specs.Held.{displayed_by};
-ghost use Rattle.ca_display.specs.Data.{data_of};
+ghost use Rattle.ca_dbr.specs.Data.{data_of};
 ghost use Rattle.ca_records.specs.Store.{IsThere, TakesAt, display_at, records_of};
 ghost use Rattle.ca_records.specs.Writes.{Begins, CanPutOne, CanWriteOne, Finishes, FinishesAt};
 ghost use Rattle.ca_records.specs.Writes.{Posts, PutsOne, SetsDisplay, Withdraws, WritesOne};
@@ -12,8 +12,7 @@ ghost use Rattle.ca_records.specs.Writes.{Posts, PutsOne, SetsDisplay, Withdraws
 use crate::puts::{Begun, Finished, Put, fewer_waiting, more_waiting};
 use crate::served_records::ServedRecords;
 use ca_arena::Handle;
-use ca_dbr::{Meta, Value};
-use ca_display::Display;
+use ca_dbr::{Display, Meta, Value};
 use ca_text::Refusal;
 use std::alloc::AllocError;
 use std::sync::Arc;

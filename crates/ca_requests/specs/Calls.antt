@@ -1,19 +1,23 @@
 -- Vocabulary: what the calls on a client's requests answer and leave.
 use Rattle.std.specs.Prelude.{◌≡◌, ◌≢◌, ◌++◌, ◌⊎◌, Bool, true, List, [], ◌∷◌, Option, Some, None}
-use Rattle.std.specs.Prelude.{Result, Ok, Err}
+use Rattle.std.specs.Prelude.{Result, Ok, Err, false, nat_lt}
 use Rattle.std.specs.declared.alloc.AllocError.{AllocError}
+use Rattle.ca_text.specs.Command.{command_number}
+use Rattle.ca_text.specs.declared.command.Command.TheVariants as command
 use Rattle.ca_text.specs.declared.refusal.Refusal.{Refusal}
 use Rattle.ca_text.specs.declared.refusal.Refusal.TheVariants as refusal
 use Rattle.ca_text.specs.Status.{normal}
 use Rattle.ca_dbr.specs.declared.value.Outcome.{Outcome}
 use Rattle.ca_dbr.specs.Reading.{ReadRefused}
+use Rattle.ca_display.specs.Reading.{DisplayRefused}
 use Rattle.ca_arena.specs.declared.handle.Handle.{Handle}
 use Rattle.ca_ids.specs.Holding.{IsVacant}
 use Rattle.ca_ids.specs.Table.{MayGive, Table, under, with_freed, with_held}
 use Rattle.ca_wire.specs.Fields.{Fields}
-use Rattle.ca_requests.specs.Meaning.{Means}
+use Rattle.ca_requests.specs.Meaning.{MeansTo}
 use Rattle.ca_requests.specs.Requests.{Asked, Draining, Open, Request, Stage, answered_by}
 use Rattle.ca_requests.specs.Requests.{in_order_of_issue}
+use Rattle.ca_requests.specs.Requests as request
 
 -- the requests in their table, and those of them that are open, in order of issue
 pub record Issued : Type 0 where
@@ -67,21 +71,38 @@ without q x = with_table (with_freed q x.table) x
 abbrev pub HasImage : Fields → Type 0
 HasImage m = (m.p1 ≡ normal) × ReadRefused m.data_type m.count m.payload refusal.OutOfMemory
 
+-- the reply has display data, and to read them takes memory
+abbrev pub HasDisplay : Fields → Type 0
+HasDisplay m =
+    (m.p1 ≡ normal) × DisplayRefused m.data_type m.count m.payload refusal.OutOfMemory
+
+-- to read it takes memory, with display data or without
+abbrev pub ReadTakesMemory : (displayed : Bool) → Fields → Type 0
+ReadTakesMemory true m = HasDisplay m
+ReadTakesMemory false m = HasImage m
+
+-- to read the reply to a request that asked this takes memory
+abbrev pub TakesMemory : Asked → Fields → Type 0
+TakesMemory (request.Read data_type count) m =
+    (m.command ≡ command_number command.ReadNotify) × ReadTakesMemory (nat_lt 20 data_type) m
+TakesMemory request.Put m = ⊥
+
 -- A reply completes an open request with the outcome that it means, and ends the draining of an
 -- IOID. Only a value takes memory.
-abbrev pub Completes : Issued → Fields → Handle → Stage
+abbrev pub Completes : Issued → Fields → Handle → Asked → Stage
     → Result (Option (Handle × Outcome)) AllocError → Issued → Type 0
-Completes old m q Open (Ok (Some (p, o))) new = (p ≡ q) × Means m o × (new ≡ without q old)
-Completes old m q Open (Ok None) new = ⊥
-Completes old m q Open (Err e) new = HasImage m × (new ≡ old)
-Completes old m q Draining (Ok None) new = new ≡ without q old
-Completes old m q Draining (Ok (Some e)) new = ⊥
-Completes old m q Draining (Err e) new = ⊥
+Completes old m q asked Open (Ok (Some (p, o))) new =
+    (p ≡ q) × MeansTo asked m o × (new ≡ without q old)
+Completes old m q asked Open (Ok None) new = ⊥
+Completes old m q asked Open (Err e) new = TakesMemory asked m × (new ≡ old)
+Completes old m q asked Draining (Ok None) new = new ≡ without q old
+Completes old m q asked Draining (Ok (Some e)) new = ⊥
+Completes old m q asked Draining (Err e) new = ⊥
 
 -- A reply was read that is about this request, or about none.
 abbrev pub AnswersOne : Issued → Fields → Option (Handle × Request)
     → Result (Option (Handle × Outcome)) AllocError → Issued → Type 0
-AnswersOne old m (Some (q, r)) answer new = Completes old m q r.stage answer new
+AnswersOne old m (Some (q, r)) answer new = Completes old m q r.asked r.stage answer new
 AnswersOne old m None (Ok None) new = new ≡ old
 AnswersOne old m None (Ok (Some e)) new = ⊥
 AnswersOne old m None (Err e) new = ⊥

@@ -15,7 +15,7 @@ ghost use Rattle.ca_requests.specs.Requests.{circuit_gone, in_order_of_issue, is
 use crate::asked::{Asked, RequestStage};
 use crate::drops::{RequestsMeant, end_each, free_all};
 use crate::lines::{hand_out, note, prepare};
-use crate::outcome::{image_outcome_into, status_outcome};
+use crate::outcome::{LAST_PLAIN_TYPE, display_outcome, image_outcome_into, status_outcome};
 use crate::request::{Request, is_same};
 use crate::request_list::{GROWTH, RequestList};
 use ca_arena::Handle;
@@ -191,7 +191,7 @@ impl Requests {
     /// A reply with this header and payload was read on this circuit: the open request that it
     /// completes, with its outcome. The IOID is free then, also if it drained.
     ///
-    /// Only a value takes memory; without it nothing changes.
+    /// Only a value takes memory, and display data; without it nothing changes.
     #[inline(always)]
     pub fn answer(
         &mut self,
@@ -213,10 +213,14 @@ impl Requests {
             self.free(handle);
             return Ok(None);
         }
+        let alloc = *self.listed.allocator();
         let outcome = match request.asked {
+            Asked::Read(data_type, _) if data_type > LAST_PLAIN_TYPE => {
+                display_outcome(alloc, header, payload)?
+            }
             Asked::Read(_, _) => {
                 let room = self.spare.pop();
-                image_outcome_into(*self.listed.allocator(), room, header, payload)?
+                image_outcome_into(alloc, room, header, payload)?
             }
             Asked::Put => status_outcome(header),
         };

@@ -20,6 +20,7 @@ value_text e =
 -- what became of a request
 abbrev pub outcome_text : Outcome → List ℕ
 outcome_text (outcome.Value v m) = value_text (elements v)
+outcome_text (outcome.Displayed v m d) = value_text (elements v)
 outcome_text outcome.Done = codes " done"
 outcome_text (outcome.Failed status) = counted (codes " status ") status.number
 outcome_text (outcome.Unreadable refusal) = counted (codes " unreadable ") (refusal_number refusal)

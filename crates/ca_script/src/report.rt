@@ -30,6 +30,7 @@ pub fn put_outcome(outcome: &Outcome, text: &mut Vec<u8>) -> Result<(), Refusal>
 {
     match outcome {
         Outcome::Value(value, _) => put_value(value, text),
+        Outcome::Displayed(value, _, _) => put_value(value, text),
         Outcome::Done => put(b" done", text),
         Outcome::Failed(status) => put_count(b" status ", u64::from(status.number), text),
         Outcome::Unreadable(refusal) => put_count(

@@ -15,7 +15,7 @@ use Rattle.ca_dbr.specs.Scalar.{IsScalar}
 use Rattle.ca_wire.specs.declared.requests.Wanted.{Wanted}
 use Rattle.ca_dbr.specs.declared.data_type.DataType.{DataType}
 use Rattle.ca_dbr.specs.Elements.{Elements, base_of, bytes_8, count_of}
-use Rattle.ca_dbr.specs.Display.{DisplayData}
+use Rattle.ca_dbr.specs.DisplayData.{DisplayData}
 use Rattle.ca_dbr.specs.Held.{bare, display_of}
 use Rattle.ca_dbr.specs.Types.{size_of_image}
 use Rattle.ca_dbr.proofs.Helds.{count_of-bare}

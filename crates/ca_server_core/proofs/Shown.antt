@@ -3,7 +3,7 @@ use Rattle.std.proofs.Common.{◌≡◌, ℕ, Bool, true, false, cond, List, Res
 use Rattle.std.specs.Str.{bytes_eq}
 use Rattle.ca_arena.specs.declared.handle.Handle.{Handle}
 use Rattle.ca_beacon.specs.Clock.{Clock}
-use Rattle.ca_dbr.specs.Display.{DisplayData}
+use Rattle.ca_dbr.specs.DisplayData.{DisplayData}
 use Rattle.ca_dbr.specs.Elements.{displayed}
 use Rattle.ca_dbr.specs.Held.{bare}
 use Rattle.ca_ids.specs.Table.{Table, under}

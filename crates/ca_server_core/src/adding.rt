@@ -2,13 +2,13 @@
 ghost use Rattle.std.specs.Prelude.{ℕ};
 ghost use Rattle.std.specs.Arc.{arc_value};
 ghost use Rattle.ca_dbr.specs.Elements.{displayed, elements};
-ghost use Rattle.ca_display.specs.Data.{data_of};
+ghost use Rattle.ca_dbr.specs.Data.{data_of};
 ghost use Rattle.ca_model.specs.ServerCalls.{AddsRecord};
 ghost use Rattle.ca_records.specs.Record.{unset};
 
 use crate::server::ServerCore;
-use ca_dbr::Value;
-use ca_display::{Display, Held};
+use ca_dbr::{Display, Value};
+use ca_display::Held;
 use ca_text::Refusal;
 use std::sync::Arc;
 

@@ -6,7 +6,7 @@ ghost use Rattle.ca_arena.specs.declared.handle.Handle.{Handle};
 ghost use Rattle.ca_dbr.specs.Elements.{elements};
 ghost use Rattle.ca_dbr.specs.Held.{displayed_by};
 ghost use Rattle.ca_ids.specs.Table.{under};
-ghost use Rattle.ca_display.specs.Data.{data_of};
+ghost use Rattle.ca_dbr.specs.Data.{data_of};
 ghost use Rattle.ca_model.specs.ServerCalls.{Posts, SetsDisplay};
 ghost use Rattle.ca_records.specs.Store.{IsThere, display_at, records_of};
 ghost use Rattle.ca_server_circuit.specs.Posting.{IsCopyAt};
@@ -17,8 +17,7 @@ ghost use Rattle.ca_server_core.specs.Sound.{IsSound};
 
 use crate::server::ServerCore;
 use ca_arena::Handle;
-use ca_dbr::{Meta, Value};
-use ca_display::Display;
+use ca_dbr::{Display, Meta, Value};
 use ca_ids::HeldTable;
 use ca_records::ServedRecords;
 use ca_server_circuit::Circuit;

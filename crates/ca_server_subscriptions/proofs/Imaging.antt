@@ -13,7 +13,7 @@ use Rattle.ca_dbr.specs.declared.data_type.Form.{Form}
 use Rattle.ca_dbr.specs.declared.data_type.Form.TheVariants as form
 use Rattle.ca_dbr.specs.declared.value.Meta.{Meta}
 use Rattle.ca_dbr.specs.Conversion.{Fails}
-use Rattle.ca_dbr.specs.Display.{DisplayData}
+use Rattle.ca_dbr.specs.DisplayData.{DisplayData}
 use Rattle.ca_dbr.specs.Elements.{Elements, base_of}
 use Rattle.ca_dbr.specs.Held.{IsHeldValue, bare, display_of}
 use Rattle.ca_dbr.specs.Image.{image}

@@ -4,10 +4,8 @@
 //! an `mbbo` of three states. Where C leaves bytes as they were (padding, and a text after its zero
 //! byte), there are zero bytes in place of what came.
 use ca_arena::Handle;
-use ca_dbr::{BaseType, Meta, Value};
-use ca_display::{
-    Display, Limits, alarm_of, convert_display, display_size, read_display, write_display,
-};
+use ca_dbr::{BaseType, Display, Limits, Meta, Value};
+use ca_display::{alarm_of, convert_display, display_size, read_display, write_display};
 use ca_records::Records;
 use ca_server_core::ServerCore;
 use ca_text::Refusal;

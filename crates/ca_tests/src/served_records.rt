@@ -1,8 +1,8 @@
 //! A server keeps a new record at the place of one that was removed, if there is one, and a record
 //! keeps its display data.
 use ca_arena::Handle;
-use ca_dbr::{Meta, Value};
-use ca_display::{Display, Held, Limits};
+use ca_dbr::{Display, Limits, Meta, Value};
+use ca_display::Held;
 use ca_records::{Begun, Put, ServedRecords};
 use ca_text::Refusal;
 use std::alloc::Global;

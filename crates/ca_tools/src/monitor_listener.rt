@@ -76,6 +76,7 @@ pub fn new_monitor_listener(alloc: Global) -> Result<(MonitorListener, MonitorUp
 fn copy(alloc: Global, outcome: &Outcome) -> Result<Outcome, Refusal> {
     match outcome {
         Outcome::Value(value, meta) => Ok(Outcome::Value(value.copy(alloc)?, *meta)),
+        Outcome::Displayed(value, meta, _) => Ok(Outcome::Value(value.copy(alloc)?, *meta)),
         Outcome::Done => Ok(Outcome::Done),
         Outcome::Failed(status) => Ok(Outcome::Failed(*status)),
         Outcome::Unreadable(refusal) => Ok(Outcome::Unreadable(*refusal)),

@@ -306,6 +306,7 @@ fn text_value(alloc: Global, text: &str) -> Result<Value, Refusal> {
 fn value_in(outcome: Option<Outcome>) -> Result<Value, Refusal> {
     match outcome {
         Some(Outcome::Value(value, _)) => Ok(value),
+        Some(Outcome::Displayed(value, _, _)) => Ok(value),
         Some(Outcome::Failed(status)) => Err(Refusal::ServerRefused(status)),
         Some(Outcome::Unreadable(refusal)) => Err(refusal),
         Some(Outcome::Done) => Err(Refusal::Disconnected),

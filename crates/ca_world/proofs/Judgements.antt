@@ -3,7 +3,7 @@ use Rattle.std.proofs.Common.{◌≡◌, ◌≢◌, ◌∙◌, ℕ, ◌<◌, ◌
 use Rattle.std.specs.Prelude.{IsErrAnd, is_some, option_map}
 use Rattle.ca_arena.specs.declared.handle.Handle.{Handle}
 use Rattle.ca_dbr.specs.declared.value.Value.{Value}
-use Rattle.ca_dbr.specs.Display.{DisplayData}
+use Rattle.ca_dbr.specs.DisplayData.{DisplayData}
 use Rattle.ca_dbr.specs.Elements.{Elements, base_of, count_of, elements}
 use Rattle.ca_dbr.specs.Held.{Kind, display_of, displayed_by, kind_of}
 use Rattle.ca_dbr.proofs.Helds.{display_of-elements}

@@ -5,7 +5,7 @@ use Rattle.std.specs.Prelude.{if◌then◌else◌}
 use Rattle.std.proofs.lemmas.List.{length-append}
 use Rattle.ca_arena.specs.declared.handle.Handle.{Handle}
 use Rattle.ca_dbr.specs.declared.value.Outcome.TheVariants as outcome
-use Rattle.ca_requests.specs.Requests.{Request, Stage, answered_by, asks_on}
+use Rattle.ca_requests.specs.Requests.{Asked, Request, Stage, answered_by, asks_on}
 use Rattle.ca_requests.specs.Requests as request
 use Rattle.ca_monitor.specs.Subscriptions.{confirmed_by}
 use Rattle.ca_text.specs.Command.{command_number}
@@ -72,13 +72,13 @@ module _ (x : Client) (c : Handle) (m : Fields) where
   cleared-few (Some (h, Clearing)) = inl refl
   cleared-few (Some (h, Doomed)) = inl refl
 
-  completes-few : (q : Handle) (s : Stage) (e : Effect) → Completes x m q s e → IsFew e.notices
-  completes-few q request.Open e (o, means, is) = inr (notice.Completed q o, ap (λ (z : Effect). z.notices) is)
-  completes-few q request.Draining e is = inl (ap (λ (z : Effect). z.notices) is)
+  completes-few : (q : Handle) (a : Asked) (s : Stage) (e : Effect) → Completes x m q a s e → IsFew e.notices
+  completes-few q a request.Open e (o, means, is) = inr (notice.Completed q o, ap (λ (z : Effect). z.notices) is)
+  completes-few q a request.Draining e is = inl (ap (λ (z : Effect). z.notices) is)
 
   answers-few : (o : Option (Handle × Request)) (e : Effect) → Answers x m o e → IsFew e.notices
   answers-few None e is = inl (ap (λ (z : Effect). z.notices) is)
-  answers-few (Some (q, r)) e is = completes-few q r.stage e is
+  answers-few (Some (q, r)) e is = completes-few q r.asked r.stage e is
 
   confirmed-few : (o : Option Handle) → IsFew (confirmed x o).notices
   confirmed-few None = inl refl

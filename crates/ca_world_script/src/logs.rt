@@ -185,6 +185,7 @@ fn put_status(outcome: &Outcome, text: &mut Vec<u8>) -> Result<(), Refusal>
     match outcome {
         Outcome::Failed(status) => put_count(b" ", u64::from(status.number), text),
         Outcome::Value(_, _) => put_outcome(outcome, text),
+        Outcome::Displayed(_, _, _) => put_outcome(outcome, text),
         Outcome::Done => put_outcome(outcome, text),
         Outcome::Unreadable(_) => put_outcome(outcome, text),
         Outcome::Disconnected => put_outcome(outcome, text),

@@ -2,7 +2,7 @@ use Rattle.std.proofs.Common.{ℕ, ◌∙◌, ap, sym, arith, tests, from_bits, 
 use Rattle.std.specs.Float.{Float, binary64}
 use Rattle.ca_text.specs.declared.refusal.Refusal.{Refusal}
 use Rattle.ca_display.specs.declared.number.Number.{Number}
-use Rattle.ca_display.specs.Data.{limits_of}
+use Rattle.ca_dbr.specs.Data.{limits_of}
 use Rattle.ca_display.specs.Alarm.{alarm_at, number_alarm}
 use Rattle.ca_display.proofs.Alarms.{alarm-none, alarm-one, alarm-several}
 use Rattle.ca_display.proofs.alarm.alarm_of_one.Goals as goal

@@ -1,5 +1,5 @@
 use Rattle.ca_dbr.proofs.Gathering.{Faultless}
-use Rattle.ca_display.specs.Data.{data_of}
+use Rattle.ca_dbr.specs.Data.{data_of}
 use Rattle.ca_display.proofs.conversion.check_shown.Given as goal
 
 abbrev pub invariant-loop-item : goal.invariant-loop-item

@@ -1,7 +1,7 @@
 use Rattle.std.proofs.Common.{arith}
 use Rattle.ca_dbr.specs.Elements.{elements}
 use Rattle.ca_dbr.specs.Shown.{first_elements}
-use Rattle.ca_display.specs.Data.{data_of}
+use Rattle.ca_dbr.specs.Data.{data_of}
 use Rattle.ca_display.specs.Conversion.{display_converted}
 use Rattle.ca_display.proofs.Shown.{first_elements-all, unconverted}
 use Rattle.ca_display.proofs.conversion.convert_first.Goals as goal

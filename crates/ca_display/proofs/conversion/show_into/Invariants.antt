@@ -1,6 +1,6 @@
 use Rattle.std.proofs.Common.{◌≡◌, ◌≤◌, length, vec_len, vec_capacity}
 use Rattle.ca_dbr.proofs.Gathering.{GatheredTo}
-use Rattle.ca_display.specs.Data.{data_of}
+use Rattle.ca_dbr.specs.Data.{data_of}
 use Rattle.ca_display.proofs.conversion.show_into.Given as goal
 
 abbrev pub invariant-loop-item : goal.invariant-loop-item

@@ -1,6 +1,6 @@
 use Rattle.std.proofs.Common.{◌≡◌, ◌∙◌, sym, rules, inr}
 use Rattle.ca_dbr.specs.Elements.{base_of, elements}
-use Rattle.ca_display.specs.Data.{data_of}
+use Rattle.ca_dbr.specs.Data.{data_of}
 use Rattle.ca_display.specs.Types.{base_in}
 use Rattle.ca_display.proofs.Images.{own_written}
 use Rattle.ca_display.proofs.Shown.{shows-own}

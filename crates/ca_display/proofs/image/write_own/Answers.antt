@@ -1,6 +1,6 @@
 use Rattle.std.proofs.Common.{◌≡◌, ap, ◌∙◌, vec_len, vec_capacity}
 use Rattle.ca_dbr.specs.Elements.{base_of, elements}
-use Rattle.ca_display.specs.Data.{data_of}
+use Rattle.ca_dbr.specs.Data.{data_of}
 use Rattle.ca_display.specs.Types.{base_in}
 use Rattle.ca_display.proofs.Images.{data_lacks, data_put}
 use Rattle.ca_display.proofs.image.write_own.Goals as goal

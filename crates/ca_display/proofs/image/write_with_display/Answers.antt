@@ -3,7 +3,7 @@ use Rattle.ca_dbr.specs.declared.data_type.Form.TheVariants as plain_form
 use Rattle.ca_dbr.specs.Types.{element_size}
 use Rattle.ca_dbr.specs.Elements.{elements}
 use Rattle.ca_dbr.specs.Image.{meta_bytes}
-use Rattle.ca_display.specs.Data.{data_of}
+use Rattle.ca_dbr.specs.Data.{data_of}
 use Rattle.ca_display.specs.Image.{data_bytes}
 use Rattle.ca_display.proofs.Images.{zero_meta, display_put, display_fits}
 use Rattle.ca_display.proofs.image.write_with_display.Goals as goal

@@ -2,7 +2,7 @@ use Rattle.std.proofs.Common.{ℕ, List, ◌≡◌, ◌*◌, sym, ap, ◌∙◌,
 use Rattle.ca_dbr.specs.Types.{element_size}
 use Rattle.ca_dbr.specs.Elements.{elements}
 use Rattle.ca_dbr.specs.Reading.{ReadsElements}
-use Rattle.ca_display.specs.Data.{in_field}
+use Rattle.ca_dbr.specs.Data.{in_field}
 use Rattle.ca_display.proofs.Readings.{plain_body, exact_body, limit_count-many}
 use Rattle.ca_display.proofs.reading.read_limits.Goals as goal
 

@@ -4,7 +4,7 @@ use Rattle.ca_text.proofs.Places.{some_is}
 use Rattle.ca_dbr.specs.declared.data_type.BaseType.{BaseType}
 use Rattle.ca_dbr.specs.Conversion.{HasConversion}
 use Rattle.ca_dbr.specs.Held.{display_of}
-use Rattle.ca_display.specs.Data.{data_of}
+use Rattle.ca_dbr.specs.Data.{data_of}
 use Rattle.ca_display.specs.Types.{base_in}
 use Rattle.ca_server_circuit.proofs.Subscribes.{converts-display, converts-plain, is-some, not-some}
 use Rattle.ca_server_subscriptions.proofs.Imaging.{image_type-of-number}

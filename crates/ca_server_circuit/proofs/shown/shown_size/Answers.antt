@@ -1,7 +1,7 @@
 use Rattle.std.proofs.Common.{◌∙◌, ap, option_map, sym}
 use Rattle.std.specs.Prelude.{is_some}
 use Rattle.ca_dbr.specs.Held.{display_of}
-use Rattle.ca_display.specs.Data.{data_of}
+use Rattle.ca_dbr.specs.Data.{data_of}
 use Rattle.ca_server_circuit.proofs.Sizes.{sized-display, sized-plain}
 use Rattle.ca_server_circuit.proofs.Subscribes.{is-some}
 use Rattle.ca_server_circuit.proofs.shown.shown_size.Goals as goal

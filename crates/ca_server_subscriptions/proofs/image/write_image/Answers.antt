@@ -1,6 +1,6 @@
 use Rattle.std.proofs.Common.{◌∙◌, ap, option_map, sym}
 use Rattle.ca_dbr.specs.Elements.{elements}
-use Rattle.ca_display.specs.Data.{data_of}
+use Rattle.ca_dbr.specs.Data.{data_of}
 use Rattle.ca_server_subscriptions.proofs.Imaging.{writes-display, writes-plain}
 use Rattle.ca_server_subscriptions.proofs.image.write_image.Goals as goal
 

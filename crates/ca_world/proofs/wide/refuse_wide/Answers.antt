@@ -1,6 +1,7 @@
-use Rattle.std.proofs.Common.{refl}
+use Rattle.std.proofs.Common.{is_none, refl}
 use Rattle.std.specs.Prelude.{map}
 use Rattle.ca_model.specs.ClientCalls.{Shape}
+use Rattle.ca_model.specs.Images.{type_of}
 use Rattle.ca_client_core.proofs.Adding.{subscribes-not}
 use Rattle.ca_client_core.proofs.Requesting.{reads-not}
 use Rattle.ca_world_data.specs.declared.client.ClientSide.{ClientSide}
@@ -17,7 +18,7 @@ returns-in-Some-clause-reads c =
     let y : ClientSide = c.prepare.new.side in
     let a : Shape = record { data_type = c.args.data_type; count = c.args.count } in
     let r = c.in_ok-handle.ensures.ready in
-    let refused = reads-not (client_of y).core c.in_ok-handle.handle a c.in-Some.refusal c.in-Some.ensures in
+    let refused = reads-not (is_none (type_of a.data_type)) (client_of y).core c.in_ok-handle.handle a c.in-Some.refusal c.in-Some.ensures in
     reads-moved c.args.client c.args.channel a (client_of x) (client_of y) _ (lines_in c.args.logs.now.items) (lines_in c.prepare.new.logs.items) _ (map joined_of c.args.circuits.now.items) (map joined_of c.prepare.new.circuits.items) _ _
     c.prepare.ensures.side c.prepare.ensures.logs c.prepare.ensures.circuits
     (reads-noted c.args.client c.args.channel a (client_of y) _ (lines_in c.prepare.new.logs.items) _ (map joined_of c.prepare.new.circuits.items) c.in_ok-handle.handle c.in-Some.refusal refused.0 (client_of y).core c.note.result

@@ -1,10 +1,12 @@
-use Rattle.std.proofs.Common.{◌∙◌, false, sym}
+use Rattle.std.proofs.Common.{◌∙◌, Bool, ap, false, is_none, sym}
 use Rattle.ca_text.specs.declared.refusal.Refusal.TheVariants as refusal
 use Rattle.ca_model.specs.Client.{standing_at}
 use Rattle.ca_model.specs.ClientCalls.{Shape}
+use Rattle.ca_model.specs.Images.{type_of}
+use Rattle.ca_client_core.specs.Calls.{live_ask_fault}
 use Rattle.ca_client_core.specs.Lives.{live_of}
 use Rattle.ca_client_core.proofs.Faults.{and_then, fault-live, live-at}
-use Rattle.ca_client_core.proofs.Requesting.{asks}
+use Rattle.ca_client_core.proofs.Requesting.{asks, plain-type}
 use Rattle.ca_client_core.proofs.client.ClientCore.askable_wide.Goals as goal
 
 pub returns-in-Some : goal.returns-in-Some
@@ -13,4 +15,4 @@ returns-in-Some c =
     let a : Shape = record { data_type = c.args.data_type; count = c.args.count } in
     let l = live_of c.in_ok-live.live in
     let s = standing_at x c.args.channel in
-    record { may = fault-live (and_then (asks x a) false refusal.ArenaFull) s l (live-at s l (sym c.in_ok-live.ensures)) ∙ sym c.ask_fault.ensures.fault ∙ c.in-Some.is; fits = tt }
+    record { may = fault-live (and_then (asks (is_none (type_of a.data_type)) x a) false refusal.ArenaFull) s l (live-at s l (sym c.in_ok-live.ensures)) ∙ ap (λ (bad : Bool). live_ask_fault bad x false l.circuit l.native.count l.rights a.count) (plain-type a.data_type) ∙ sym c.ask_fault.ensures.fault ∙ c.in-Some.is; fits = tt }

@@ -1,16 +1,12 @@
-use Rattle.std.proofs.Common.{◌≡◌, ◌∙◌, ℕ, List, Result, ap, subst, sym}
+use Rattle.std.proofs.Common.{List, Option, Result, is_none, subst, sym}
 use Rattle.ca_text.specs.declared.refusal.Refusal.{Refusal}
 use Rattle.ca_arena.specs.declared.handle.Handle.{Handle}
-use Rattle.ca_ids.specs.Table.{MayGive, is_full}
-use Rattle.ca_wire.specs.declared.requests.Wanted.{Wanted}
-use Rattle.ca_wire.specs.Messages.{read_request}
 use Rattle.ca_model.specs.Answers.{Sending}
-use Rattle.ca_model.specs.Client.{Client}
-use Rattle.ca_model.specs.ClientCalls.{ClientReads, Shape, read_sent}
+use Rattle.ca_model.specs.ClientCalls.{ClientReads, ReadsUnless, Shape}
+use Rattle.ca_model.specs.Images.{type_of}
 use Rattle.ca_client_core.specs.Lives.{live_of}
 use Rattle.ca_client_core.proofs.Faults.{same-error}
-use Rattle.ca_client_core.proofs.Requesting.{reads-done, reads-full, reads-not, reads-out}
-use Rattle.ca_model.proofs.Changes.{live-there}
+use Rattle.ca_client_core.proofs.Requesting.{may-unless, reads-not}
 use Rattle.ca_client_core.proofs.client.ClientCore.read.Goals as goal
 
 pub returns-in_err-live : goal.returns-in_err-live
@@ -19,33 +15,12 @@ returns-in_err-live c =
     let a : Shape = record { data_type = c.args.data_type; count = c.args.count } in
     let e = c.in_err-live.field-0.0 in
     subst (λ (r : Result Handle Refusal). (sent : List Sending) × ClientReads x c.args.channel a r sent x) (sym (same-error c.from_residual.result e c.from_residual.ensures.1))
-    (reads-not x c.args.channel a e c.in_err-live.ensures)
-
-pub returns-in_default : goal.returns-in_default
-returns-in_default c =
-    let x = c.args.self.now in
-    let a : Shape = record { data_type = c.args.data_type; count = c.args.count } in
-    reads-full x c.args.channel a (live_of c.in_ok-live.live) c.in_ok-live.ensures.0 c.in_ok-live.ensures.1
-    (sym (ap (λ (y : Client). is_full y.requests) c.self.view_is) ∙ c.in_default.ensures)
-
-pub returns-in-Ok : goal.returns-in-Ok
-returns-in-Ok c =
-    let x = c.args.self.now in
-    let a : Shape = record { data_type = c.args.data_type; count = c.args.count } in
-    let l = live_of c.in_ok-live.live in
-    let q = c.in-Some.request in
-    let says : c.read_request-message.result ≡ (read_sent c.args.channel l a q).message =
-    c.read_request-message.ensures
-    ∙ ap (λ (i : ℕ). let w : Wanted = record { sid = i; id = c.new-2.result; data_type = c.args.data_type; count = c.args.count } in read_request w) c.new.ensures
-    ∙ ap (λ (i : ℕ). let w : Wanted = record { sid = l.native.sid; id = i; data_type = c.args.data_type; count = c.args.count } in read_request w) (c.new-2.ensures ∙ c.number.ensures ∙ c.of.ensures) in
-    reads-done x c.args.channel a l q c.read_request-message.result c.ask.new.self c.in_ok-live.ensures.0 c.in_ok-live.ensures.1 says c.in-Ok.ensures
+    (reads-not (is_none (type_of a.data_type)) x c.args.channel a e c.in_err-live.ensures)
 
 pub returns : goal.returns
 returns c =
     let x = c.args.self.now in
     let a : Shape = record { data_type = c.args.data_type; count = c.args.count } in
-    let q = c.in-Some.request in
-    reads-out x c.args.channel a q c.ask.new.self c.in_ok-live.ensures.1 (subst (λ (y : Client). MayGive y.requests q) c.self.view_is c.in-Some.ensures) c.in-Err.ensures
-
-pub ask-requires : goal.ask-requires
-ask-requires c = live-there c.args.self.now c.args.channel (live_of c.in_ok-live.live) c.in_ok-live.ensures.0
+    subst (λ (f : Option Refusal). (sent : List Sending) × ReadsUnless f x c.args.channel a c.read_on.result sent c.read_on.new.self)
+    (may-unless (is_none (type_of a.data_type)) x c.args.channel a (live_of c.in_ok-live.live) c.in_ok-live.ensures.0 c.in_ok-live.ensures.1)
+    c.read_on.ensures

@@ -1,9 +1,9 @@
 use Rattle.std.proofs.Common.{option_map, subst}
 use Rattle.std.specs.Arc.{arc_value}
 use Rattle.ca_dbr.specs.Elements.{elements}
-use Rattle.ca_dbr.specs.Display.{IsData}
-use Rattle.ca_display.specs.declared.display.Display.{Display}
-use Rattle.ca_display.specs.Data.{data_of}
+use Rattle.ca_dbr.specs.DisplayData.{IsData}
+use Rattle.ca_dbr.specs.declared.display.Display.{Display}
+use Rattle.ca_dbr.specs.Data.{data_of}
 use Rattle.ca_display.proofs.Holdings.{held-shown}
 use Rattle.ca_display.proofs.held.Held.know.Goals as goal
 

@@ -1,7 +1,7 @@
 use Rattle.std.proofs.Common.{option_map, sym}
 use Rattle.std.specs.Arc.{arc_value}
 use Rattle.ca_dbr.specs.Elements.{elements}
-use Rattle.ca_display.specs.Data.{data_of}
+use Rattle.ca_dbr.specs.Data.{data_of}
 use Rattle.ca_display.proofs.Holdings.{whole-shown}
 use Rattle.ca_display.proofs.held.Held.set.Goals as goal
 

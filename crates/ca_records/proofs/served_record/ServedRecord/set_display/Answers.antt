@@ -1,6 +1,6 @@
 use Rattle.std.proofs.Common.{subst, sym}
 use Rattle.std.specs.Arc.{arc_value}
-use Rattle.ca_display.specs.Data.{data_of}
+use Rattle.ca_dbr.specs.Data.{data_of}
 use Rattle.ca_records.specs.Layout.{AreFit, waiting_on}
 use Rattle.ca_records.specs.Record.{RecordState}
 use Rattle.ca_records.proofs.Waiters.{shown-fit, shown-whole}

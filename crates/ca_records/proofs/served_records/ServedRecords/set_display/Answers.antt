@@ -1,5 +1,5 @@
 use Rattle.std.specs.Arc.{arc_value}
-use Rattle.ca_display.specs.Data.{data_of}
+use Rattle.ca_dbr.specs.Data.{data_of}
 use Rattle.ca_records.proofs.CallSteps.{display-step}
 use Rattle.ca_records.proofs.Steps.{looked}
 use Rattle.ca_records.proofs.served_records.ServedRecords.set_display.Goals as goal

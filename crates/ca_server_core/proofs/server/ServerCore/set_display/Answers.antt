@@ -1,7 +1,7 @@
 use Rattle.std.proofs.Common.{Bool, Result, sym, subst}
 use Rattle.std.specs.Arc.{arc_value}
 use Rattle.ca_arena.specs.declared.handle.Handle.{Handle}
-use Rattle.ca_display.specs.Data.{data_of}
+use Rattle.ca_dbr.specs.Data.{data_of}
 use Rattle.ca_text.specs.declared.refusal.Refusal.{Refusal}
 use Rattle.ca_model.specs.ServerCalls.{SetsDisplay, property_mask}
 use Rattle.ca_server_core.proofs.Led.{led-reached}

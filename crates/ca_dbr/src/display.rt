@@ -7,8 +7,8 @@ use crate::field::fixed;
 use ca_text::Refusal;
 use std::alloc::Global;
 
-// The most states that a record has names for.
-pub(crate) const STATE_LIMIT: usize = 16;
+/// The most states that a record has names for.
+pub const STATE_LIMIT: usize = 16;
 
 /// The limits of a record, each the bit pattern of a DOUBLE.
 #[derive(Clone, Copy, Debug, PartialEq, Eq)]
@@ -37,7 +37,7 @@ pub struct Display {
 }
 
 impl Limits {
-    ghost use Rattle.ca_display.specs.Data.{limits_of};
+    ghost use Rattle.ca_dbr.specs.Data.{limits_of};
 
     /// All zero, as limits are read that an image does not carry: no value has an alarm by them.
     pub const ZERO: Limits = Limits {
@@ -69,8 +69,8 @@ impl Limits {
 }
 
 impl Display {
-    ghost use Rattle.ca_dbr.specs.Display.{IsData};
-    ghost use Rattle.ca_display.specs.Data.{data_of, limits_of, FitsField, in_field, StateRefused};
+    ghost use Rattle.ca_dbr.specs.DisplayData.{IsData};
+    ghost use Rattle.ca_dbr.specs.Data.{data_of, limits_of, FitsField, in_field, StateRefused};
 
     /// Display data without states. Refused as NameLength if the units are over 7 bytes or have a
     /// zero byte.

@@ -3,9 +3,9 @@ use Rattle.std.specs.Prelude.{ℕ, ◌<◌, ◌≤◌, ◌-◌, List, [], ◌∷
 use Rattle.std.specs.Prelude.{Contains}
 use Rattle.ca_text.specs.declared.refusal.Refusal.{Refusal}
 use Rattle.ca_text.specs.declared.refusal.Refusal.TheVariants as refusal
-use Rattle.ca_dbr.specs.Display.{DisplayData}
-use Rattle.ca_display.specs.declared.display.Limits.{Limits}
-use Rattle.ca_display.specs.declared.display.Display.{Display}
+use Rattle.ca_dbr.specs.DisplayData.{DisplayData}
+use Rattle.ca_dbr.specs.declared.display.Limits.{Limits}
+use Rattle.ca_dbr.specs.declared.display.Display.{Display}
 
 -- upper and lower limit of the display; of alarm, of warning, each upper one first; of control
 abbrev pub limits_of : Limits → List ℕ

@@ -1,5 +1,5 @@
 use Rattle.std.proofs.Common.{◌^◌, ◌<◌, All, List, ℕ, subst, rules}
-use Rattle.ca_display.proofs.display.Display.know.Goals as goal
+use Rattle.ca_dbr.proofs.display.Display.know.Goals as goal
 
 pub returns : goal.returns
 returns c =

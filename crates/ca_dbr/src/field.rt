@@ -1,6 +1,6 @@
 //! A text in a field of fixed size, as images and display data have it.
 ghost use Rattle.std.specs.Prelude.{◌≡◌, ◌≤◌, length, IfOk, IfErr};
-ghost use Rattle.ca_display.specs.Data.{FitsField, in_field};
+ghost use Rattle.ca_dbr.specs.Data.{FitsField, in_field};
 ghost use Rattle.ca_text.specs.declared.refusal.Refusal.TheVariants.{NameLength};
 
 use ca_text::Refusal;
@@ -19,7 +19,7 @@ pub(crate) fn fixed<const SIZE: usize>(text: &[u8]) -> Result<[u8; SIZE], Refusa
 }
 
 /// A text in a field of this size, with zero bytes after it.
-pub(crate) fn field_of<const SIZE: usize>(text: &[u8]) -> [u8; SIZE]
+pub fn field_of<const SIZE: usize>(text: &[u8]) -> [u8; SIZE]
     requires { length text.now ≤ SIZE }
     ensures { result ≡ in_field SIZE text.now }
 {
