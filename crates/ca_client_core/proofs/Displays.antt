@@ -1,7 +1,7 @@
 -- Each image with display data has an outcome: its value and these, why it has none, or the status.
-use Rattle.std.proofs.Common.{◌≡◌, ◌∙◌, ℕ, zero, suc, ◌+◌, ◌-◌, ◌<◌, ◌≤◌, ◌^◌, ◌⊎◌, inl, inr, Global, Vec, List, [], ◌∷◌, ◌++◌, ap, arith, drop, length, length-drop, refl, replicate, subst, sym, take}
+use Rattle.std.proofs.Common.{◌≡◌, ◌∙◌, ℕ, zero, suc, ◌+◌, ◌-◌, ◌<◌, ◌≤◌, ◌^◌, ◌⊎◌, inl, inr, Global, Vec, List, [], ◌∷◌, ◌++◌, ap, arith, drop, length, length-drop, refl, subst, sym, take}
 use Rattle.std.proofs.lemmas.Bool.{cases_eq, cases_lt}
-use Rattle.std.proofs.lemmas.List.{length-append, length-replicate, length-take-le, take-append-drop, take-take}
+use Rattle.std.proofs.lemmas.List.{length-take-le, take-append-drop, take-take}
 use Rattle.std.specs.Int.{w16, from_be_bytes}
 use Rattle.ca_text.specs.Status.{normal}
 use Rattle.ca_text.specs.declared.refusal.Refusal.TheVariants as refusal
@@ -20,14 +20,13 @@ use Rattle.ca_dbr.specs.declared.display.Limits.{Limits}
 use Rattle.ca_dbr.specs.declared.value.Outcome.{Outcome}
 use Rattle.ca_dbr.specs.declared.value.Outcome.TheVariants as outcome
 use Rattle.ca_dbr.proofs.LongBytes.{are-drop, are-take, reading}
-use Rattle.ca_display.specs.Limits.{as_doubles}
-use Rattle.ca_display.specs.Reading.{ReadsData, ReadsDisplay, ReadsLimits, ReadsReal, ReadsWhole}
-use Rattle.ca_display.specs.Types.{data_size, display_number, limit_count}
+use Rattle.ca_display.specs.Reading.{ReadsData, ReadsDisplay}
+use Rattle.ca_display.specs.Types.{data_size, display_number}
 use Rattle.ca_display.specs.declared.display_type.DisplayForm.{DisplayForm}
 use Rattle.ca_display.specs.declared.display_type.DisplayForm.TheVariants as form
 use Rattle.ca_display.specs.declared.display_type.DisplayType.{DisplayType}
-use Rattle.ca_display.proofs.LongData.{data-in}
-use Rattle.ca_display.proofs.Readings.{display_long, length-as_doubles}
+use Rattle.ca_display.proofs.LongData.{IsShort, data-in}
+use Rattle.ca_display.proofs.Readings.{display_long}
 use Rattle.ca_wire.specs.Fields.{Fields}
 use Rattle.ca_requests.specs.Meaning.{DisplayMeans}
 use Rattle.ca_client_core.proofs.Outcomes.{meta-of, value-of, vec_of}
@@ -65,44 +64,10 @@ limits-of (a ∷ b ∷ c ∷ d ∷ e ∷ f ∷ []) eight = absurd (omega (arith,
 limits-of (a ∷ b ∷ c ∷ d ∷ e ∷ f ∷ g ∷ []) eight = absurd (omega (arith, eight))
 limits-of (a ∷ b ∷ c ∷ d ∷ e ∷ f ∷ g ∷ h ∷ i ∷ xs) eight = absurd (omega (arith, eight))
 
--- those that an image lacks are zero
-limits-eight : (b : BaseType) (f : DisplayForm) (bytes units limits : List ℕ) → ReadsLimits b f bytes units limits → length limits ≡ 8
-limits-eight b f bytes units limits r =
-    let few : length (as_doubles r.shown) ≤ count_of r.shown = length-as_doubles r.shown in
-    let zeros : List ℕ = replicate (8 - length (as_doubles r.shown)) 0 in
-    let filled : length zeros ≡ 8 - length (as_doubles r.shown) = length-replicate {A = ℕ} (8 - length (as_doubles r.shown)) 0 in
-    ap length r.doubled ∙ length-append (as_doubles r.shown) zeros ∙ omega (arith, few, most f, filled, r.counted)
-  where
-    most : (f : DisplayForm) → limit_count f ≤ 8
-    most form.Graphic = omega arith
-    most form.Control = omega arith
-
-states-none : (d : DisplayData) → d.states ≡ [] → length d.states ≤ 16
-states-none d none = subst (λ (xs : List (List ℕ)). length xs ≤ 16) (sym none) (omega arith)
-
--- what is read has eight limits, and at most 16 states
-abbrev IsShort : DisplayData → Type 0
-IsShort d = (length d.limits ≡ 8) × (length d.states ≤ 16)
-
-whole-short : (b : BaseType) (f : DisplayForm) (n : ℕ) (bytes : List ℕ) (d : DisplayData) → ReadsWhole b f n bytes d → IsShort d
-whole-short b f n bytes d r = (limits-eight b f r.front d.units d.limits r.limits, states-none d r.no_states)
-
-real-short : (b : BaseType) (f : DisplayForm) (bytes : List ℕ) (d : DisplayData) → ReadsReal b f bytes d → IsShort d
-real-short b f bytes d r = (limits-eight b f r.behind d.units d.limits r.limits, states-none d r.no_states)
-
-data-short : (b : BaseType) (f : DisplayForm) (bytes : List ℕ) (d : DisplayData) → ReadsData b f bytes d → IsShort d
-data-short base.String f bytes d r = (ap (λ (x : DisplayData). length x.limits) r.1 ∙ length-replicate {A = ℕ} 8 0, states-none d (ap (λ (x : DisplayData). x.states) r.1))
-data-short base.Int f bytes d r = whole-short base.Int f 0 bytes d r
-data-short base.Float f bytes d r = real-short base.Float f bytes d r
-data-short base.Enum f bytes d r = (ap (λ (x : DisplayData). length x.limits) r.only ∙ length-replicate {A = ℕ} 8 0, r.few)
-data-short base.Char f bytes d r = whole-short base.Char f 1 bytes d r
-data-short base.Long f bytes d r = whole-short base.Long f 0 bytes d r
-data-short base.Double f bytes d r = real-short base.Double f bytes d r
-
 display-of : {Y : Type 0} (w : Vec Y Global) (d : DisplayData) → IsShort d → (v : Display) × (data_of v ≡ d)
-display-of w d (eight, few) =
-    let l = limits-of d.limits eight in
-    (record { units = d.units; precision = d.precision; limits = l.0; states = vec_of w d.states (omega (arith, few)); few = few }, λ i. record { units = d.units; precision = d.precision; limits = l.1 i; states = d.states })
+display-of w d short =
+    let l = limits-of d.limits short.eight in
+    (record { units = d.units; precision = d.precision; limits = l.0; states = vec_of w d.states (omega (arith, short.few)); few = short.few }, λ i. record { units = d.units; precision = d.precision; limits = l.1 i; states = d.states })
 
 -- ---- an image
 
@@ -129,7 +94,7 @@ whole-means w m t named is few are long states =
     let r = reading t.base m.count body (omega (arith, long, left, behind)) (are-drop k rest (are-drop 4 m.payload are)) in
     let counted : count_of r.0 ≡ m.count = r.1.counted in
     let v = value-of w r.0 (omega (arith, few, counted)) r.1.valued in
-    let shown = display-of w d.0 (data-short t.base t.form middle d.0 d.1) in
+    let shown = display-of w d.0 d.2 in
     let reads : ReadsDisplay t m.count m.payload (elements v.0) h.m (data_of shown.0) = record {
       middle = middle;
       body = body;

@@ -31,7 +31,7 @@ pub struct Display {
     /// How many digits are shown after the point.
     pub precision: i16,
     pub limits: Limits,
-    /// The names of an ENUM's states, from that of 0 on: each a text, and zero bytes.
+    /// The names of an ENUM's states, from that of 0 on: each a text up to its first zero byte.
     pub states: Vec<[u8; 26]>,
     ghost few: { length states.items ≤ 16 },
 }

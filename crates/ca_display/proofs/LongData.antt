@@ -23,8 +23,8 @@ use Rattle.ca_display.proofs.Readings.{exact_body, length-as_doubles, length-nam
 
 -- display data that a program may have: eight limits, and at most 16 states
 pub record IsShort (d : DisplayData) : Type 0 where
-  eight : length d.limits ≡ 8
-  few : length d.states ≤ 16
+  pub eight : length d.limits ≡ 8
+  pub few : length d.states ≤ 16
 
 -- ---- limits
 

@@ -216,8 +216,9 @@ fn read_alarm(bytes: &[u8]) -> Meta
 }
 
 /// Reads the image of n elements with display data. Refused as BadType if the type is none with
-/// display data, as Short if the bytes are too few, as BadCount if there are more than 16 states,
-/// or as OutOfMemory.
+/// display data, as BadCount if there are more than 16 states, as Short if the bytes are too few,
+/// or as OutOfMemory. An image of both faults, which has too many states and lacks elements, is
+/// BadCount.
 ///
 /// Limits of the type are given as DOUBLEs; what the type does not carry is zero. Padding, names
 /// after the last state, and bytes after the last element are not read.
