@@ -18,6 +18,9 @@ pub(crate) const NO_OBJECT: i32 = -100;
 /// The first type with display data.
 pub(crate) const FIRST_DISPLAY: u16 = 21;
 
+/// The first with control limits.
+const FIRST_CONTROL: u16 = 28;
+
 /// The number of a refusal, below zero.
 pub(crate) fn refused(refusal: Refusal) -> i32
     ensures { result ≡ refusal_code refusal }
@@ -121,7 +124,7 @@ pub(crate) fn displayed(
         size.old size.new room.old room.new }
 {
     let own = value.base_type().number();
-    if data_type == own + 21 || data_type == own + 28 {
+    if data_type == own + FIRST_DISPLAY || data_type == own + FIRST_CONTROL {
         code(copied_display(alloc, data_type, value, meta, display, room, size))
     } else {
         shown(alloc, data_type, value, meta, room, size)

@@ -7,6 +7,8 @@ use Rattle.ca_ids.specs.Table.{MayGive, Table, under, with_all, with_all_freed, 
 use Rattle.ca_ids.specs.Wire.{wire_of}
 use Rattle.ca_monitor.specs.Subscriptions.{Subscription, is_to}
 use Rattle.ca_monitor.specs.Subscriptions as monitor
+use Rattle.ca_requests.specs.Requests.{Request, asks_on, over_on}
+use Rattle.ca_requests.specs.Requests as request
 use Rattle.ca_search.specs.Searcher.{with_one, without}
 use Rattle.ca_search.specs.Searcher as searcher
 use Rattle.ca_search.specs.Searches as search
@@ -21,7 +23,7 @@ use Rattle.ca_model.specs.Client.{Channel, Client, ClientCircuit, Connection, Co
 use Rattle.ca_model.specs.ClientCalls.{unsubscribed_all, unwanted, all_over, cleared}
 use Rattle.ca_model.specs.Ends.{Peer}
 use Rattle.ca_model.proofs.Tables.{all-back, all-freed-back, changed-back, freed-back, held-back, under-at}
-use Rattle.ca_laws_parts.specs.Speaks.{SendsMessages, ChannelFits, CircuitFits, ClientFits, AllHeld, SearchesFit, SubscriptionFits}
+use Rattle.ca_laws_parts.specs.Speaks.{SendsMessages, ChannelFits, CircuitFits, ClientFits, AllHeld, RequestFits, SearchesFit, SubscriptionFits}
 
 -- ---- tables
 
@@ -83,18 +85,19 @@ all-fit f cs same fit i d at =
 
 -- ---- changes of a core
 
-pub fits-circuits : (x y : Client) → y.peer ≡ x.peer → y.channels ≡ x.channels → y.subscriptions ≡ x.subscriptions → y.searches ≡ x.searches → AllHeld CircuitFits y.circuits → ClientFits x → ClientFits y
-fits-circuits x y peer channels subscriptions searches circuits f = record {
+pub fits-circuits : (x y : Client) → y.peer ≡ x.peer → y.channels ≡ x.channels → y.subscriptions ≡ x.subscriptions → y.searches ≡ x.searches → AllHeld CircuitFits y.circuits → AllHeld RequestFits y.requests → ClientFits x → ClientFits y
+fits-circuits x y peer channels subscriptions searches circuits requests f = record {
   user = subst (λ (p : Peer). length p.user < payload_limit) (sym peer) f.user;
   host = subst (λ (p : Peer). length p.host < payload_limit) (sym peer) f.host;
   channels = subst (λ (t : Table Channel). AllHeld ChannelFits t) (sym channels) f.channels;
+  requests = requests;
   subscriptions = subst (λ (t : Table Subscription). AllHeld SubscriptionFits t) (sym subscriptions) f.subscriptions;
   circuits = circuits;
   searches = subst (λ (l : List (ℕ × search.Channel)). SearchesFit l) (sym searches) f.searches;
 }
 
 pub fits-on : (g : Connection → Connection) (c : Handle) (x : Client) → ClientFits x → ClientFits (on_connection g c x)
-fits-on g c x f = fits-circuits x (on_connection g c x) refl refl refl refl (holds-changed CircuitFits _ x.circuits c f.circuits (λ u is h. h)) f
+fits-on g c x f = fits-circuits x (on_connection g c x) refl refl refl refl (holds-changed CircuitFits _ x.circuits c f.circuits (λ u is h. h)) f.requests f
 
 pub fits-sending : (sent : List Sending) (x : Client) → ClientFits x → ClientFits (sending sent x)
 fits-sending [] x f = f
@@ -106,6 +109,7 @@ standing-fits s h x live f = record {
   user = f.user;
   host = f.host;
   channels = holds-changed ChannelFits (λ (here : Channel). record here { standing = s }) x.channels h f.channels (λ u is p. record { name = p.name; priority = p.priority; native = live });
+  requests = f.requests;
   subscriptions = f.subscriptions;
   circuits = f.circuits;
   searches = f.searches;
@@ -120,7 +124,7 @@ never-live c p none d n r e = absurd (none n r (phase-of e))
 pub searched-fits : (x : Client) (h : Handle) → ClientFits x → ClientFits (searched_again x h)
 searched-fits x h f =
     let g = standing-fits Searching h x (λ c n r e. absurd (nowhere c n r e)) f in
-    record { user = g.user; host = g.host; channels = g.channels; subscriptions = g.subscriptions; circuits = g.circuits; searches = one-fits (search.resumed x.moment) (wire_of h) x.searches (λ c. refl) f.searches }
+    record { user = g.user; host = g.host; channels = g.channels; requests = g.requests; subscriptions = g.subscriptions; circuits = g.circuits; searches = one-fits (search.resumed x.moment) (wire_of h) x.searches (λ c. refl) f.searches }
   where
     nowhere : (c : Handle) (n : Native) (r : ℕ) → Searching ≡ On c (Live n r) → ⊥
     nowhere c n r e = cc
@@ -128,22 +132,30 @@ searched-fits x h f =
 pub found-fits : (c : Handle) (p : Phase) (h : Handle) (x : Client) → ((n : Native) (r : ℕ) → p ≡ Live n r → ⊥) → ClientFits x → ClientFits (found_on c p h x)
 found-fits c p h x none f =
     let g = standing-fits (On c p) h x (never-live c p none) f in
-    record { user = g.user; host = g.host; channels = g.channels; subscriptions = g.subscriptions; circuits = g.circuits; searches = one-fits search.paused (wire_of h) x.searches (λ c. refl) f.searches }
+    record { user = g.user; host = g.host; channels = g.channels; requests = g.requests; subscriptions = g.subscriptions; circuits = g.circuits; searches = one-fits search.paused (wire_of h) x.searches (λ c. refl) f.searches }
 
 pub gone-fits : (x : Client) (h : Handle) → ClientFits x → ClientFits (without_channel x h)
 gone-fits x h f =
-    record { user = f.user; host = f.host; channels = holds-freed ChannelFits x.channels h f.channels; subscriptions = f.subscriptions; circuits = f.circuits; searches = without-fits (wire_of h) x.searches f.searches }
+    record { user = f.user; host = f.host; channels = holds-freed ChannelFits x.channels h f.channels; requests = f.requests; subscriptions = f.subscriptions; circuits = f.circuits; searches = without-fits (wire_of h) x.searches f.searches }
 
 pub subscriptions-fit : (x : Client) (t : Table Subscription) → AllHeld SubscriptionFits t → ClientFits x → ClientFits (record x { subscriptions = t })
-subscriptions-fit x t all f = record { user = f.user; host = f.host; channels = f.channels; subscriptions = all; circuits = f.circuits; searches = f.searches }
+subscriptions-fit x t all f = record { user = f.user; host = f.host; channels = f.channels; requests = f.requests; subscriptions = all; circuits = f.circuits; searches = f.searches }
 
--- requests, their order, the moment and beacons play no part
-pub fits-like : (x y : Client) → y.peer ≡ x.peer → y.channels ≡ x.channels → y.subscriptions ≡ x.subscriptions → y.searches ≡ x.searches → y.circuits ≡ x.circuits → ClientFits x → ClientFits y
-fits-like x y peer channels subscriptions searches circuits f = fits-circuits x y peer channels subscriptions searches (subst (λ (t : Table ClientCircuit). AllHeld CircuitFits t) (sym circuits) f.circuits) f
+-- the order of circuits, the moment and beacons play no part
+pub fits-like : (x y : Client) → y.peer ≡ x.peer → y.channels ≡ x.channels → y.subscriptions ≡ x.subscriptions → y.searches ≡ x.searches → y.circuits ≡ x.circuits → AllHeld RequestFits y.requests → ClientFits x → ClientFits y
+fits-like x y peer channels subscriptions searches circuits requests f = fits-circuits x y peer channels subscriptions searches (subst (λ (t : Table ClientCircuit). AllHeld CircuitFits t) (sym circuits) f.circuits) requests f
+
+-- requests that are over asked for the same
+pub over-fit : (h : Handle) (x : Client) → ClientFits x → AllHeld RequestFits (request.channel_over h x.requests)
+over-fit h x f = holds-all RequestFits (over_on h) x.requests f.requests (λ q p. go q (asks_on h q) p)
+  where
+    go : (q : Request) (b : Bool) → RequestFits q → RequestFits (cond b (record q { stage = request.Draining }) q)
+    go q true p = p
+    go q false p = p
 
 pub all-over-fits : (c h : Handle) (x : Client) → ClientFits x → ClientFits (all_over c h x)
 all-over-fits c h x f =
-    fits-like (record x { subscriptions = monitor.channel_over c h x.subscriptions }) (all_over c h x) refl refl refl refl refl
+    fits-like (record x { subscriptions = monitor.channel_over c h x.subscriptions }) (all_over c h x) refl refl refl refl refl (over-fit h x f)
     (subscriptions-fit x (monitor.channel_over c h x.subscriptions) (holds-all SubscriptionFits (monitor.over_on c h) x.subscriptions f.subscriptions (λ u p. go u (is_to h u) p)) f)
   where
     go : (u : Subscription) (b : Bool) → SubscriptionFits u → SubscriptionFits (cond b (record u { stage = monitor.stage_over c u.stage }) u)
@@ -157,8 +169,8 @@ let-go-fits : (c : Handle) (k : ClientCircuit) (x : Client) → ClientFits x →
 let-go-fits c k x f = go k.is_name
   where
     go : (b : Bool) → ClientFits (cond b (disconnected c x) (without_circuit c x))
-    go true = fits-circuits x (disconnected c x) refl refl refl refl (holds-changed CircuitFits _ x.circuits c f.circuits (λ u is h. h)) f
-    go false = fits-circuits x (without_circuit c x) refl refl refl refl (holds-freed CircuitFits x.circuits c f.circuits) f
+    go true = fits-circuits x (disconnected c x) refl refl refl refl (holds-changed CircuitFits _ x.circuits c f.circuits (λ u is h. h)) f.requests f
+    go false = fits-circuits x (without_circuit c x) refl refl refl refl (holds-freed CircuitFits x.circuits c f.circuits) f.requests f
 
 unwanted-fits : (c : Handle) (x : Client) → ClientFits x → ClientFits (unwanted c x)
 unwanted-fits c x f = go (length (channels_on (λ (p : Phase). true) c x) == 0) (under x.circuits c)
@@ -198,7 +210,7 @@ ended-fits c x f = go (under x.circuits c)
 
     without-fits-ids : ClientFits (without_ids c x)
     without-fits-ids =
-        fits-like (record x { subscriptions = monitor.circuit_gone c x.subscriptions }) (without_ids c x) refl refl refl refl refl
+        fits-like (record x { subscriptions = monitor.circuit_gone c x.subscriptions }) (without_ids c x) refl refl refl refl refl (holds-all-freed RequestFits _ x.requests f.requests)
         (subscriptions-fit x (monitor.circuit_gone c x.subscriptions) (holds-all-freed SubscriptionFits _ x.subscriptions f.subscriptions) f)
 
     over : ClientFits (channels_ended c (without_ids c x))

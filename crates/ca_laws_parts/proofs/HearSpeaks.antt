@@ -21,8 +21,8 @@ use Rattle.ca_model.specs.Answers.{Notice, Sending}
 use Rattle.ca_model.specs.Client.{Channel, Client, ClientCircuit, Clearing, Connecting, Connection, Creating, Doomed, Leaving, Live, Native, On, Phase, Searching, Standing, channel_on, circuit_to, found_on, new_circuit, phase_on, searched_again, with_requests, with_standing, without_channel}
 use Rattle.ca_laws_parts.specs.Held.{AreFew}
 use Rattle.ca_model.proofs.Tables.{held-under}
-use Rattle.ca_laws_parts.specs.Speaks.{SendsMessages, ChannelFits, CircuitFits, ClientFits, SpeaksWell, SubscriptionFits}
-use Rattle.ca_laws_parts.proofs.Fits.{fits-circuits, fits-like, fits-sending, found-fits, gone-fits, holds-all-freed, holds-freed, holds-held, never-live, none-sent, not-clearing, one-more, searched-fits, standing-fits, subscriptions-fit, wire-under}
+use Rattle.ca_laws_parts.specs.Speaks.{SendsMessages, ChannelFits, CircuitFits, ClientFits, RequestFits, SpeaksWell, SubscriptionFits}
+use Rattle.ca_laws_parts.proofs.Fits.{fits-circuits, fits-like, fits-sending, found-fits, gone-fits, holds-all-freed, holds-freed, holds-held, never-live, none-sent, not-clearing, one-more, over-fit, searched-fits, standing-fits, subscriptions-fit, wire-under}
 use Rattle.ca_laws_parts.proofs.Speaks.{add-good, clear-good, create-good}
 use Rattle.ca_model.proofs.Tables as circuit
 use Rattle.ca_model.specs.Ends.{Address}
@@ -93,7 +93,7 @@ module _ (x : Client) (few : AreFew x) (f : ClientFits x) where
   puts-on-speaks a h here (Some (c, k)) e id fit is = put-on-speaks x c k.connection h here e f id fit.name is
   puts-on-speaks a h here None e id fit (inl made) =
       put-on-speaks (with_circuit made.0 (new_circuit a here.priority false) x) made.0 None h here e
-      (fits-circuits x (with_circuit made.0 (new_circuit a here.priority false) x) refl refl refl refl (holds-held CircuitFits x.circuits made.0 _ made.1 f.circuits fit.priority) f) id fit.name made.2
+      (fits-circuits x (with_circuit made.0 (new_circuit a here.priority false) x) refl refl refl refl (holds-held CircuitFits x.circuits made.0 _ made.1 f.circuits fit.priority) f.requests f) id fit.name made.2
   puts-on-speaks a h here None e id fit (inr full) = quiet-speaks x e [] f full.1
 
   pub finds-speaks : (a : Address) (cid : ℕ) (e : Effect) → FindsAt x a (searched_by cid x) e → SpeaksWell e.core e.sent
@@ -164,7 +164,7 @@ module _ (x : Client) (few : AreFew x) (f : ClientFits x) where
 
     drained : (h : Handle) → ClientFits (without_drained c h x)
     drained h =
-        fits-like (record x { subscriptions = monitor.channel_drained c h x.subscriptions }) (without_drained c h x) refl refl refl refl refl
+        fits-like (record x { subscriptions = monitor.channel_drained c h x.subscriptions }) (without_drained c h x) refl refl refl refl refl (holds-all-freed RequestFits _ x.requests f.requests)
         (subscriptions-fit x (monitor.channel_drained c h x.subscriptions) (holds-all-freed SubscriptionFits _ x.subscriptions f.subscriptions) f)
 
     answered-speaks : (o : Option (Handle × Phase)) → e ≡ clear_answered x c o → SpeaksWell e.core e.sent
@@ -182,14 +182,14 @@ module _ (x : Client) (few : AreFew x) (f : ClientFits x) where
     left-speaks cid (Some (h, Creating rights)) at is = quiet-speaks x e [] f is
     left-speaks cid (Some (h, Live n rights)) at is =
         let y : Client = with_requests (request.channel_over h x.requests) x in
-        doing-speaks (with_standing (On c Leaving) h y) e _ _ (standing-fits (On c Leaving) h y (never-live c Leaving not-leaving) (fits-like x y refl refl refl refl refl f))
+        doing-speaks (with_standing (On c Leaving) h y) e _ _ (standing-fits (On c Leaving) h y (never-live c Leaving not-leaving) (fits-like x y refl refl refl refl refl (over-fit h x f) f))
         (one-more _ [] (clear-good n.sid (wire_of h) (live-fits c cid h n rights at).0 (cid-fits c cid h (Live n rights) at)) none-sent) is
     left-speaks cid (Some (h, Leaving)) at is = quiet-speaks x e [] f is
     left-speaks cid (Some (h, Clearing)) at is = quiet-speaks x e [] f is
     left-speaks cid (Some (h, Doomed)) at is = quiet-speaks x e [] f is
 
     without-request : (q : Handle) → ClientFits (without_request q x)
-    without-request q = fits-like x (without_request q x) refl refl refl refl refl f
+    without-request q = fits-like x (without_request q x) refl refl refl refl refl (holds-freed RequestFits x.requests q f.requests) f
 
     without-sub : (s : Handle) → ClientFits (without_subscription s x)
     without-sub s = subscriptions-fit x (with_freed s x.subscriptions) (holds-freed SubscriptionFits x.subscriptions s f.subscriptions) f

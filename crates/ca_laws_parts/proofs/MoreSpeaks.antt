@@ -77,6 +77,7 @@ connects-speaks x y c d None sent few f there does =
       user = f.user;
       host = f.host;
       channels = holds-all ChannelFits (creating c) x.channels f.channels (creating-fits c);
+      requests = f.requests;
       subscriptions = f.subscriptions;
       circuits = holds-changed CircuitFits _ x.circuits c f.circuits (λ u is h. h);
       searches = f.searches;
@@ -153,7 +154,7 @@ pub tick-speaks : (moment : ℕ) (x : Client) → ClientFits x → SpeaksWell (s
 tick-speaks moment x f =
     let y : Client = record x { moment = later moment x } in
     let t : Ticking = circuits_ticked moment x in
-    let h = circuits-speak x.order (record { core = y; sent = []; notices = []; closings = [] }) (fits-like x y refl refl refl refl refl f, none-sent) in
+    let h = circuits-speak x.order (record { core = y; sent = []; notices = []; closings = [] }) (fits-like x y refl refl refl refl refl f.requests f, none-sent) in
     let u : Ticking = fold (all_searched_on (due t.core)) t (filter (is_name_connected t.core) t.core.order) in
     let r = all-speak (due t.core) (filter (is_name_connected t.core) t.core.order) t (due-fit t.core h.0) h in
-    (record { user = r.0.user; host = r.0.host; channels = r.0.channels; subscriptions = r.0.subscriptions; circuits = r.0.circuits; searches = all-fit (search.passed u.core.moment) u.core.searches (λ c. refl) r.0.searches }, r.1)
+    (record { user = r.0.user; host = r.0.host; channels = r.0.channels; requests = r.0.requests; subscriptions = r.0.subscriptions; circuits = r.0.circuits; searches = all-fit (search.passed u.core.moment) u.core.searches (λ c. refl) r.0.searches }, r.1)

@@ -76,8 +76,7 @@ finish-fails b status (inl (inl read, image)) = (let e : ◌≡◌ {A = ℕ} 19 
 finish-fails b status (inl (inr (event_add, some), image)) = (let e : ◌≡◌ {A = ℕ} 19 1 = event_add in absurd (omega (arith, e)))
 finish-fails b status (inr (inl (put, means))) = means.0 refl
 finish-fails b status (inr (inr (inl created))) = created.1
-finish-fails b status (inr (inr (inr (inl fault)))) = (let e : ◌≡◌ {A = ℕ} 19 11 = fault.0 in absurd (omega (arith, e)))
-finish-fails b status (inr (inr (inr (inr shown)))) = (let e : ◌≡◌ {A = ℕ} 19 15 = shown.0 in absurd (omega (arith, e)))
+finish-fails b status (inr (inr (inr fault))) = (let e : ◌≡◌ {A = ℕ} 19 11 = fault.0 in absurd (omega (arith, e)))
 
 -- each message that is sent is that reply
 replies-are : (y : Server) (b : Put) (gone : Handle → Bool) (sent : List (Handle × Fields)) (mid : Server) → Replies y b gone sent mid → (i : ℕ) (x : Handle × Fields) → At sent i x → x.1 ≡ finish_reply b

@@ -52,6 +52,7 @@ new-fits a fit = record {
   user = fit.0;
   host = fit.1;
   channels = λ h ch is. absurd (none-under h ch is);
+  requests = λ h r is. absurd (none-under h r is);
   subscriptions = λ h d is. absurd (none-under h d is);
   circuits = λ h c is.
       let b = At-mapped (λ (a : Address). record { generation = 1; value = Some (new_circuit a 0 true) }) (distinct a.names) h.index (place h c) (under-at _ h c is) in
@@ -74,6 +75,7 @@ beacon-fits from m x f = record {
   user = f.user;
   host = f.host;
   channels = f.channels;
+  requests = f.requests;
   subscriptions = f.subscriptions;
   circuits = f.circuits;
   searches = go _;
@@ -216,7 +218,7 @@ module _ (w new : World) (i : ℕ) (x : ClientSide) (at : At w.clients i x) (s :
   datagram-fit from bytes happens =
       let now : Client = record x.core { moment = later w.moment x.core } in
       done _ _
-      (all-received from happens.2.0 now (record { channels = few.channels; requests = few.requests; subscriptions = few.subscriptions }) (fits-like x.core now refl refl refl refl refl core-fits)
+      (all-received from happens.2.0 now (record { channels = few.channels; requests = few.requests; subscriptions = few.subscriptions }) (fits-like x.core now refl refl refl refl refl core-fits.requests core-fits)
       (record { core = happens.1; sent = happens.0; notices = [] }) happens.2.2) happens.3
 
 -- ---- circuits are made, and a new life

@@ -35,7 +35,7 @@ use Rattle.ca_laws_parts.specs.Held.{AreFew}
 use Rattle.ca_model.proofs.Standings.{found-standing}
 use Rattle.ca_model.proofs.Tables.{find-at}
 use Rattle.ca_model.proofs.Standings.{stands-as}
-use Rattle.ca_laws_parts.specs.Speaks.{SendsMessages, ChannelFits, ClientFits, SearchesFit, SpeaksWell, SubscriptionFits}
+use Rattle.ca_laws_parts.specs.Speaks.{SendsMessages, ChannelFits, ClientFits, RequestFits, SearchesFit, SpeaksWell, SubscriptionFits}
 use Rattle.ca_laws_parts.proofs.Fits.{cleared-fits, empty-payload, fits-like, fits-sending, holds-changed, holds-freed, holds-held, none-sent, one-more, subscriptions-fit, text-fits, wire-fits, wire-under}
 
 pub does-speak : (z y : Client) (sends sent : List Sending) → ClientFits z → SendsMessages sends → Does sends z sent y → SpeaksWell y sent
@@ -86,10 +86,10 @@ none-each {A} (h ∷ fs) e i g at = go h.0 refl e i at (λ r k q. none-each fs r
     go false is e (suc i) at rest = rest e i at
 
 -- the type of this number
-typed : (n : ℕ) → is_none (type_of n) ≡ false → n < 2 ^ 16
+typed : (n : ℕ) → is_none (type_of n) ≡ false → n ≤ 20
 typed n e = go (type_of n) refl e
   where
-    go : (o : Option DataType) → type_of n ≡ o → is_none o ≡ false → n < 2 ^ 16
+    go : (o : Option DataType) → type_of n ≡ o → is_none o ≡ false → n ≤ 20
     go None is e = absurd (both_ways true e refl)
     go (Some t) is e =
         let f = find-at (λ (t : DataType). type_number t == n) all_types t is in
@@ -101,7 +101,7 @@ at-least : (a b : ℕ) → nat_lt a b ≡ false → b ≤ a
 at-least a b e = ltb-false a b e
 
 -- a read or a subscription without fault
-ask-none : (x : Client) (full : Bool) (h : Handle) (a : Shape) (l : LiveChannel) → standing_at x h ≡ Some (On l.circuit (Live l.native l.rights)) → ask_fault x full h a ≡ None → (a.data_type < 2 ^ 16) × (a.count ≤ l.native.count)
+ask-none : (x : Client) (full : Bool) (h : Handle) (a : Shape) (l : LiveChannel) → standing_at x h ≡ Some (On l.circuit (Live l.native l.rights)) → ask_fault x full h a ≡ None → (a.data_type ≤ 20) × (a.count ≤ l.native.count)
 ask-none x full h a l is none =
     let faults : LiveChannel → List (Bool × Refusal) = λ (l : LiveChannel). (is_none (type_of a.data_type), refusal.BadType) ∷ (not (may_read l.rights), refusal.NoAccess) ∷ (nat_lt l.native.count a.count, refusal.BadCount) ∷ (is_over x l.circuit, refusal.OutputFull) ∷ (full, refusal.ArenaFull) ∷ [] in
     let all : first_refusal (faults l) ≡ None = sym (ap (λ (o : Option Standing). fault_at faults o) is) ∙ none in
@@ -135,6 +135,7 @@ open-speaks x y a q sent f does =
       user = f.user;
       host = f.host;
       channels = holds-held ChannelFits x.channels q _ does.1 f.channels (record { name = does.0.0.within; priority = does.0.1; native = λ c n r e. absurd (nowhere c n r e) });
+      requests = f.requests;
       subscriptions = f.subscriptions;
       circuits = f.circuits;
       searches = more;
@@ -154,9 +155,10 @@ read-speaks x y h a q sent f does =
     let l : LiveChannel = does.0 in
     let n = native-at x h l.circuit l.native l.rights f does.1 in
     let fault = ask-none x (is_full x.requests) h a l does.1 does.2 in
+    let plain : a.data_type ≤ 20 = fault.0 in
     let le : a.count ≤ l.native.count = fault.1 in
     let lt : l.native.count < 2 ^ 32 = n.1 in
-    does-speak _ y _ sent (fits-like x _ refl refl refl refl refl f) (one-more _ [] (read-good _ fault.0 (omega (arith, le, lt)) n.0 (wire-fits q does.3.slot)) none-sent) does.4
+    does-speak _ y _ sent (fits-like x _ refl refl refl refl refl (holds-held RequestFits x.requests q _ does.3 f.requests plain) f) (one-more _ [] (read-good _ (omega (arith, plain)) (omega (arith, le, lt)) n.0 (wire-fits q does.3.slot)) none-sent) does.4
 
 pub put-speaks : (x y : Client) (h : Handle) (e : Elements) (q : Handle) (sent : List Sending) → ClientFits x → ClientPuts x h e (Ok q) sent y → SpeaksWell y sent
 put-speaks x y h e q sent f does =
@@ -166,7 +168,7 @@ put-speaks x y h e q sent f does =
     let le : count_of e ≤ l.native.count = fault.0 in
     let lt : l.native.count < 2 ^ 32 = n.1 in
     let base : base_number (base_of e) < 7 = base_number-small (base_of e) in
-    does-speak _ y _ sent (fits-like x _ refl refl refl refl refl f) (one-more _ [] (put-good _ (bytes_of e) fault.1 (omega (arith, base)) (omega (arith, le, lt)) n.0 (wire-fits q does.3.slot)) none-sent) does.4
+    does-speak _ y _ sent (fits-like x _ refl refl refl refl refl (holds-held RequestFits x.requests q _ does.3 f.requests tt) f) (one-more _ [] (put-good _ (bytes_of e) fault.1 (omega (arith, base)) (omega (arith, le, lt)) n.0 (wire-fits q does.3.slot)) none-sent) does.4
 
 pub write-speaks : (x y : Client) (h : Handle) (e : Elements) (u : Unit {0}) (sent : List Sending) → ClientFits x → ClientWrites x h e (Ok u) sent y → SpeaksWell y sent
 write-speaks x y h e u sent f does =
@@ -183,11 +185,13 @@ subscribe-speaks x y h a mask q sent f does =
     let l : LiveChannel = does.0 in
     let n = native-at x h l.circuit l.native l.rights f does.1 in
     let fault = ask-none x (is_full x.subscriptions) h a l does.1 does.2 in
+    let small : a.data_type ≤ 20 = fault.0 in
+    let number : a.data_type < 2 ^ 16 = omega (arith, small) in
     let le : a.count ≤ l.native.count = fault.1 in
     let lt : l.native.count < 2 ^ 32 = n.1 in
     let count : a.count < 2 ^ 32 = omega (arith, le, lt) in
-    does-speak _ y _ sent (subscriptions-fit x _ (holds-held SubscriptionFits x.subscriptions q _ does.3 f.subscriptions (fault.0, count)) f)
-    (one-more _ [] (add-good _ mask fault.0 count n.0 (wire-fits q does.3.slot)) none-sent) does.4
+    does-speak _ y _ sent (subscriptions-fit x _ (holds-held SubscriptionFits x.subscriptions q _ does.3 f.subscriptions (number, count)) f)
+    (one-more _ [] (add-good _ mask number count n.0 (wire-fits q does.3.slot)) none-sent) does.4
 
 unsubscribed-fits : (s : Handle) (o : Option Standing) (x : Client) → ClientFits x → ClientFits (unsubscribed s o x)
 unsubscribed-fits s (Some (On c (Live n rights))) x f = subscriptions-fit x (with_stage (Cancelled c) s x.subscriptions) (holds-changed SubscriptionFits _ x.subscriptions s f.subscriptions (λ u is p. p)) f

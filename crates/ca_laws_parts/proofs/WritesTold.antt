@@ -85,8 +85,7 @@ means-done m status is (inl image) = absurd image.1
 means-done m status is (inr (inl put)) = put.1
 means-done m status is (inr (inr (inl created))) =
     (let a : m.command ≡ 18 = created.0 in let b : m.command ≡ 19 = is in absurd (omega (arith, a, b)))
-means-done m status is (inr (inr (inr (inl fault)))) = absurd fault.1
-means-done m status is (inr (inr (inr (inr shown)))) = absurd shown.1
+means-done m status is (inr (inr (inr fault))) = absurd fault.1
 
 means-failed : (m : Fields) (status : ℕ) (s : Status) → Is command.WriteNotify m → Means (status_reply m status) (Failed s) → status ≡ normal → ⊥
 means-failed m status s is (inl (inl read, image)) e =
@@ -95,10 +94,8 @@ means-failed m status s is (inl (inr event, image)) e =
     (let a : m.command ≡ 1 = event.0 in let b : m.command ≡ 19 = is in absurd (omega (arith, a, b)))
 means-failed m status s is (inr (inl put)) e = put.1.0 e
 means-failed m status s is (inr (inr (inl created))) e = created.1
-means-failed m status s is (inr (inr (inr (inl fault)))) e =
+means-failed m status s is (inr (inr (inr fault))) e =
     (let a : m.command ≡ 11 = fault.0 in let b : m.command ≡ 19 = is in absurd (omega (arith, a, b)))
-means-failed m status s is (inr (inr (inr (inr shown)))) e =
-    (let a : m.command ≡ 15 = shown.0 in let b : m.command ≡ 19 = is in absurd (omega (arith, a, b)))
 
 -- A put that is told Done at once is applied, and makes its record not busy.
 pub due-done : (k : Knows) (m : Fields) (replies : List Fields) (action : Action) (r : Fields) → AreSlow k → Due k m replies action → Is command.WriteNotify m → In replies r → Means r Done → (name : List ℕ) × (value : Elements) × (action ≡ Applies name value false)

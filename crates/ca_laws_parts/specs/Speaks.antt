@@ -3,6 +3,8 @@ use Rattle.std.specs.Prelude.{ℕ, ◌≡◌, ◌<◌, ◌≤◌, ◌^◌, List,
 use Rattle.ca_arena.specs.declared.handle.Handle.{Handle}
 use Rattle.ca_ids.specs.Table.{Table, under}
 use Rattle.ca_monitor.specs.Subscriptions.{Subscription}
+use Rattle.ca_requests.specs.Meaning.{IsPlain}
+use Rattle.ca_requests.specs.Requests.{Request}
 use Rattle.ca_search.specs.Searches as search
 use Rattle.ca_text.specs.Limits.{channel_name_limit, payload_limit, priority_limit}
 use Rattle.ca_text.specs.Place.{At}
@@ -25,6 +27,10 @@ pub record ChannelFits (ch : Channel) : Type 0 where
 abbrev pub SubscriptionFits : Subscription → Type 0
 SubscriptionFits d = (d.data_type < 2 ^ 16) × (d.count < 2 ^ 32)
 
+-- a request that asks for no display data
+abbrev pub RequestFits : Request → Type 0
+RequestFits r = IsPlain r.asked
+
 -- a circuit whose priority does
 abbrev pub CircuitFits : ClientCircuit → Type 0
 CircuitFits c = c.priority ≤ priority_limit
@@ -35,10 +41,12 @@ SearchesFit cs =
     (i : ℕ) (c : ℕ × search.Channel) → At cs i c → (c.0 < 2 ^ 32)
     × (length c.1.name ≤ channel_name_limit)
 
+-- a client of which all that does; its reads ask for no display data, as no event asks for any
 pub record ClientFits (x : Client) : Type 0 where
   pub user : length x.peer.user < payload_limit
   pub host : length x.peer.host < payload_limit
   pub channels : AllHeld ChannelFits x.channels
+  pub requests : AllHeld RequestFits x.requests
   pub subscriptions : AllHeld SubscriptionFits x.subscriptions
   pub circuits : AllHeld CircuitFits x.circuits
   pub searches : SearchesFit x.searches

@@ -166,8 +166,7 @@ module _ (n : ℕ) (c : Circuit) (y : List Entry) (keep : KeepRecords y) (after 
       not-late m is p1 (inl (inr event, image)) = (let e : m.command ≡ 1 = event.0 in omega (arith, is, e))
       not-late m is p1 (inr (inl put)) = put.1.0 p1
       not-late m is p1 (inr (inr (inl created))) = created.1
-      not-late m is p1 (inr (inr (inr (inl fault)))) = (let e : m.command ≡ 11 = fault.0 in omega (arith, is, e))
-      not-late m is p1 (inr (inr (inr (inr shown)))) = (let e : m.command ≡ 15 = shown.0 in omega (arith, is, e))
+      not-late m is p1 (inr (inr (inr fault))) = (let e : m.command ≡ 11 = fault.0 in omega (arith, is, e))
 
   -- where the record was removed nothing is served
   not-served : In log (Removed r) → Serves a.known a.s.message.p1 → ⊥

@@ -94,8 +94,7 @@ means-speaks r s (inl (inl read, image)) = inl (inl read)
 means-speaks r s (inl (inr event, image)) = inl (inr event.0)
 means-speaks r s (inr (inl put)) = inr (inl put.0)
 means-speaks r s (inr (inr (inl created))) = inr (inr (inl created.0))
-means-speaks r s (inr (inr (inr (inl fault)))) = inr (inr (inr fault.0))
-means-speaks r s (inr (inr (inr (inr shown)))) = inl (inl shown.0)
+means-speaks r s (inr (inr (inr fault))) = inr (inr (inr fault.0))
 
 no-speaker : (n k : ℕ) → n ≡ k → ◌≡◌ {A = Bool} ((k == 15) || ((k == 1) || ((k == 19) || ((k == 18) || (k == 11))))) false → Speaks n → ⊥
 no-speaker n k is none (inl (inl e)) = (let f : k ≡ 15 = sym is ∙ e in let g : ◌≡◌ {A = Bool} true false = sym (ap (λ (q : ℕ). (q == 15) || ((q == 1) || ((q == 19) || ((q == 18) || (q == 11))))) f) ∙ none in cc)
@@ -109,9 +108,8 @@ status-is : (r : Fields) → (r.command ≡ 15) ⊎ (r.command ≡ 19) → Means
 status-is r kind (inl (which, image)) = sym image.1
 status-is r kind (inr (inl put)) = sym put.1.1
 status-is r kind (inr (inr (inl created))) = absurd created.1
-status-is r kind (inr (inr (inr (inr shown)))) = sym shown.1.1
-status-is r (inl is) (inr (inr (inr (inl fault)))) = (let a : r.command ≡ 11 = fault.0 in absurd (omega (arith, a, is)))
-status-is r (inr is) (inr (inr (inr (inl fault)))) = (let a : r.command ≡ 11 = fault.0 in absurd (omega (arith, a, is)))
+status-is r (inl is) (inr (inr (inr fault))) = (let a : r.command ≡ 11 = fault.0 in absurd (omega (arith, a, is)))
+status-is r (inr is) (inr (inr (inr fault))) = (let a : r.command ≡ 11 = fault.0 in absurd (omega (arith, a, is)))
 
 -- an ERROR that does
 error-is : (r : Fields) → r.command ≡ 11 → Means r (Failed bad) → r.p2 ≡ 410
@@ -119,8 +117,7 @@ error-is r is (inl (inl read, image)) = absurd (omega (arith, is, read))
 error-is r is (inl (inr event, image)) = (let a : r.command ≡ 1 = event.0 in absurd (omega (arith, is, a)))
 error-is r is (inr (inl put)) = (let a : r.command ≡ 19 = put.0 in absurd (omega (arith, is, a)))
 error-is r is (inr (inr (inl created))) = absurd created.1
-error-is r is (inr (inr (inr (inl fault)))) = sym fault.1
-error-is r is (inr (inr (inr (inr shown)))) = (let a : r.command ≡ 15 = shown.0 in absurd (omega (arith, is, a)))
+error-is r is (inr (inr (inr fault))) = sym fault.1
 
 -- and these do
 pub status-means : (m : Fields) → (m.command ≡ 15) ⊎ (m.command ≡ 19) → Means (status_reply m bad_channel) (Failed bad)
@@ -134,7 +131,7 @@ status-means m (inr is) = inr (inl (is, ((λ e. differ e), refl)))
     differ e = omega (arith, e)
 
 pub error-means : (cid : ℕ) (m : Fields) → Means (error_reply cid bad_channel m) (Failed bad)
-error-means cid m = inr (inr (inr (inl (refl, refl))))
+error-means cid m = inr (inr (inr (refl, refl)))
 
 -- ---- one reply, or none
 
@@ -259,8 +256,7 @@ bad-due k m replies did r due there means =
     confirms (inl (inr event, image)) = event.1 refl
     confirms (inr (inl put)) = (let e : ◌≡◌ {A = ℕ} 1 19 = put.0 in omega (arith, e))
     confirms (inr (inr (inl created))) = created.1
-    confirms (inr (inr (inr (inl fault)))) = (let e : ◌≡◌ {A = ℕ} 1 11 = fault.0 in omega (arith, e))
-    confirms (inr (inr (inr (inr shown)))) = (let e : ◌≡◌ {A = ℕ} 1 15 = shown.0 in omega (arith, e))
+    confirms (inr (inr (inr fault))) = (let e : ◌≡◌ {A = ℕ} 1 11 = fault.0 in omega (arith, e))
 
     valued : (x : Fields) → x.command ≡ 15 → x.p1 ≡ 1 → Means x (Failed bad) → ⊥
     valued x is one said = (let e : x.p1 ≡ 410 = status-is x (inl is) said in omega (arith, e, one))
@@ -270,8 +266,7 @@ bad-due k m replies did r due there means =
     makes x is (inl (inr event, image)) = (let a : x.command ≡ 1 = event.0 in omega (arith, is, a))
     makes x is (inr (inl put)) = (let a : x.command ≡ 19 = put.0 in omega (arith, is, a))
     makes x is (inr (inr (inl created))) = created.1
-    makes x is (inr (inr (inr (inl fault)))) = (let a : x.command ≡ 11 = fault.0 in omega (arith, is, a))
-    makes x is (inr (inr (inr (inr shown)))) = (let a : x.command ≡ 15 = shown.0 in omega (arith, is, a))
+    makes x is (inr (inr (inr fault))) = (let a : x.command ≡ 11 = fault.0 in omega (arith, is, a))
 
     done : m.command ≡ 19 → (slow : Bool) → replies ≡ cond slow [] (status_reply m normal ∷ []) → ⊥
     done is true none = none-of r replies none there

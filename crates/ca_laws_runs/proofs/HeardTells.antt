@@ -32,6 +32,7 @@ use Rattle.ca_model.specs.ClientEvents.{channel_number, meant_by}
 use Rattle.ca_model.specs.World.{Names}
 use Rattle.ca_laws_parts.specs.Flows.{Awaits, Flows}
 use Rattle.ca_laws_parts.specs.Held.{Holds, has_id, is_asked}
+use Rattle.ca_laws_parts.specs.Speaks.{AllHeld, RequestFits}
 use Rattle.ca_laws_parts.proofs.CircuitHeard.{answered-is}
 use Rattle.ca_laws_parts.proofs.Refused.{heard-is, sub-named}
 use Rattle.ca_laws_parts.proofs.Settled.{ioid-gives, read-means}
@@ -70,7 +71,7 @@ silent-finds x address None e is = ap (λ (w : Effect). w.notices) is
 silent-finds x address (Some (h, here)) e is = silent-puts x address h here (circuit_to address here.priority x) e is
 
 module _ (kept : List ℕ) (n : Names) (x : Client) (on : Handle) (c : Circuit) (t : Told) (s : Sent) (tidy : Tidy n x) (quiet : Quiet n x on c.up) (flows : Flows (Awaits c kept) c) (cids : AreCids n c) (holds : Holds (Awaits c kept) on n x c)
-    (at : At c.down (length c.heard) t) (sent : At c.up t.place s) (asked : (cid : ℕ) (h : Handle) (p : Phase) → channel_on x on cid ≡ Some (h, p) → is_asked p ≡ true) where
+    (at : At c.down (length c.heard) t) (sent : At c.up t.place s) (asked : (cid : ℕ) (h : Handle) (p : Phase) → channel_on x on cid ≡ Some (h, p) → is_asked p ≡ true) (plain : AllHeld RequestFits x.requests) where
   -- a request that it finds was meant by what it is about
   request-of : (q : Handle) (r : Request) → under x.requests q ≡ Some r → was_sent_on on r ≡ true → Speaks t.message (Ioid (wire_of q)) → meant_by n.requests q ≡ s.intent
   request-of q r there here speaks =
@@ -201,7 +202,7 @@ module _ (kept : List ℕ) (n : Names) (x : Client) (on : Handle) (c : Circuit) 
       go request.Open done =
           let f = answered-is on m.command m.p2 x.requests q r found in
           let speaks : Speaks m (Ioid (wire_of q)) = inl (is, sym f.1) in
-          one-told e (notice.Completed q done.0) (made-of e _ done.2) (inl (request-of q r f.0 f.2 speaks, means-of r.asked m done.0 done.1))
+          one-told e (notice.Completed q done.0) (made-of e _ done.2) (inl (request-of q r f.0 f.2 speaks, means-of r.asked m done.0 (plain q r f.0) done.1))
       go request.Draining done = silent e (made-of e _ done)
 
   tells-confirmed : (e : Effect) (o : Option Handle) → e ≡ confirmed x o → Tells e
@@ -217,7 +218,7 @@ module _ (kept : List ℕ) (n : Names) (x : Client) (on : Handle) (c : Circuit) 
   -- ---- ERROR
 
   error-means : Is command.Error m → Means m (outcome.Failed (record { number = m.p2 }))
-  error-means is = inr (inr (inr (inl (is, refl))))
+  error-means is = inr (inr (inr (is, refl)))
 
   tells-write : (h : Header) (e : Effect) (o : Option (Handle × Phase)) → Is command.Error m → QuotesHeader m h → h.command ≡ 4 → channel_on x on m.p1 ≡ o → e ≡ write_failed x m o → Tells e
   tells-write h e None errs quotes writes found is = silent e (made-of e _ is)

@@ -185,8 +185,7 @@ no-means : (m : Fields) → Means m outcome.Disconnected → ⊥
 no-means m (inl image) = image.1
 no-means m (inr (inl puts)) = puts.1
 no-means m (inr (inr (inl creates))) = creates.1
-no-means m (inr (inr (inr (inl errs)))) = errs.1
-no-means m (inr (inr (inr (inr shown)))) = shown.1
+no-means m (inr (inr (inr errs))) = errs.1
 
 create-intent : (intent : Intent) (number : ℕ) (m : Fields) → Suits intent m → m.command ≡ 18 → IsOnChannel number intent → intent ≡ On number Create
 create-intent intent number m suits is on =

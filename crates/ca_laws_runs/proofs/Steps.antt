@@ -216,7 +216,7 @@ module _ (s : Setting) (w new : World) (ok : IsSetting s) (h : ServersStand s w)
       tells-there e hears i o place =
           subst (λ (z : Fields). TellsOwn a.x.names z q o) message
           (tells-so (kept w k) a.x.names y on a.j.lists t q (tidy-less a.x.names a.x.core y (less-on _ on a.x.core) tidy) (quiet-less a.x.names a.x.core y on a.j.lists.up (less-on _ on a.x.core) still) on-own.flows (on-own.cids a.is_open)
-          (holds-alike (Awaits a.j.lists (kept w k)) on a.x.names a.x.core y a.j.lists (on-connection-alike on on _ a.x.core) (on-own.holds a.is_open)) at there phase-asked e (subst (λ (z : Fields). Hears y on z e) (sym message) hears) i o place)
+          (holds-alike (Awaits a.j.lists (kept w k)) on a.x.names a.x.core y a.j.lists (on-connection-alike on on _ a.x.core) (on-own.holds a.is_open)) at there phase-asked (h.stands.fit.cores a.j.client a.x a.joins.client).requests e (subst (λ (z : Fields). Hears y on z e) (sym message) hears) i o place)
 
       own-there : OnChannels a.x.names y a.j.lists
       own-there = own-so a.x.names y on a.j.lists (tidy-less a.x.names a.x.core y (less-on _ on a.x.core) tidy) (quiet-less a.x.names a.x.core y on a.j.lists.up (less-on _ on a.x.core) still) on-own.flows.asked

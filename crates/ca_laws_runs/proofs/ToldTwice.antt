@@ -56,8 +56,7 @@ fails-error up t s status at writes concerns answers means = elim means [
   ]
   | inr (inl puts) ↦ absurd (no-ioid up t.place t.message.p2 s at writes (concerns (Ioid t.message.p2) (inl (inr puts.0, refl))))
   | inr (inr (inl creates)) ↦ absurd creates.1
-  | inr (inr (inr (inl errs))) ↦ errs.0
-  | inr (inr (inr (inr shown))) ↦ absurd (no-ioid up t.place t.message.p2 s at writes (concerns (Ioid t.message.p2) (inl (inl shown.0, refl))))
+  | inr (inr (inr errs)) ↦ errs.0
 ]
 
 module _ (s : Setting) (es : List Event) (stopped : Option Event) (w : World) (ok : IsSetting s) (are : AreEvents es) (runs : Runs s es stopped w) where

@@ -49,8 +49,7 @@ not-failed id k j bad =
           | inl a ↦ (let f = a.0 in omega (arith, f))
           | inr d ↦ elim d [
             | inl a ↦ (let f = a.0 in omega (arith, f))
-            | inr (inl a) ↦ (let f = a.0 in omega (arith, f))
-            | inr (inr a) ↦ (let f = a.0 in omega (arith, f))
+            | inr a ↦ (let f = a.0 in omega (arith, f))
           ]
         ]
       ])

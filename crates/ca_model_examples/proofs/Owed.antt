@@ -52,8 +52,7 @@ no-message-means m h =
         | inl a ↦ a.1
         | inr d ↦ elim d [
           | inl a ↦ a.1
-          | inr (inl a) ↦ a.1
-          | inr (inr a) ↦ a.1
+          | inr a ↦ a.1
         ]
       ]
     ]

@@ -154,8 +154,7 @@ fine m s test h =
         | inl a ↦ odd 19 a.0 (λ f. omega (arith, f)) (λ f. omega (arith, f)) a.1.0
         | inr d ↦ elim d [
           | inl a ↦ a.1
-          | inr (inl a) ↦ other a.0
-          | inr (inr a) ↦ odd 15 a.0 (λ f. omega (arith, f)) (λ f. omega (arith, f)) a.1.0
+          | inr a ↦ other a.0
         ]
       ]
     ]

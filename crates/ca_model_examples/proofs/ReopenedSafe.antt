@@ -193,8 +193,7 @@ clear-means s h =
         | inl a ↦ (let e = a.0 in omega (arith, e))
         | inr c ↦ elim c [
           | inl a ↦ (let e = a.0 in omega (arith, e))
-          | inr (inl a) ↦ (let e = a.0 in omega (arith, e))
-          | inr (inr a) ↦ (let e = a.0 in omega (arith, e))
+          | inr a ↦ (let e = a.0 in omega (arith, e))
         ]
       ]
     ]

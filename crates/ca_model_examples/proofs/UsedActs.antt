@@ -38,8 +38,7 @@ is-fine m s fine other h =
         | inl a ↦ a.1.0 fine
         | inr d ↦ elim d [
           | inl a ↦ a.1
-          | inr (inl a) ↦ other a.0
-          | inr (inr a) ↦ a.1.0 fine
+          | inr a ↦ other a.0
         ]
       ]
     ]

@@ -203,8 +203,7 @@ failed-other k j after bad =
             | inl a ↦ (let e = a.1.1 in omega (arith, e))
             | inr d ↦ elim d [
               | inl a ↦ a.1
-              | inr (inl a) ↦ (let e = a.0 in omega (arith, e))
-              | inr (inr a) ↦ (let e = a.0 in omega (arith, e))
+              | inr a ↦ (let e = a.0 in omega (arith, e))
             ]
           ]
         ]

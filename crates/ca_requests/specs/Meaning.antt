@@ -1,7 +1,7 @@
 -- Vocabulary: what outcome a message of the server means to the request, the subscription or the
 -- channel that it is about (sections "CA_PROTO_READ_NOTIFY", "CA_PROTO_WRITE_NOTIFY",
 -- "CA_PROTO_EVENT_ADD", "CA_PROTO_CREATE_CHAN" and "CA_PROTO_ERROR").
-use Rattle.std.specs.Prelude.{ℕ, ◌≡◌, ◌≢◌, ◌++◌, ◌⊎◌, List, [], Bool, true, false, nat_lt}
+use Rattle.std.specs.Prelude.{ℕ, ◌≡◌, ◌≢◌, ◌≤◌, ◌++◌, ◌⊎◌, List, [], Bool, true, false, nat_lt}
 use Rattle.ca_text.specs.Command.{command_number}
 use Rattle.ca_text.specs.declared.command.Command.TheVariants as command
 use Rattle.ca_text.specs.declared.refusal.Refusal.TheVariants.{OutOfMemory}
@@ -81,8 +81,7 @@ Means m o =
     × ImageMeans m o)
     ⊎ (((m.command ≡ command_number command.WriteNotify) × StatusMeans m o)
     ⊎ (((m.command ≡ command_number command.CreateChannel) × CreationMeans o)
-    ⊎ (((m.command ≡ command_number command.Error) × ErrorMeans m o)
-    ⊎ ((m.command ≡ command_number command.ReadNotify) × DisplayMeans m o))))
+    ⊎ ((m.command ≡ command_number command.Error) × ErrorMeans m o)))
 
 -- the reply to a read with display data, or without
 abbrev pub ReadMeans : (displayed : Bool) → Fields → Outcome → Type 0
@@ -94,6 +93,11 @@ abbrev pub MeansTo : Asked → Fields → Outcome → Type 0
 MeansTo (request.Read data_type count) m o =
     (m.command ≡ command_number command.ReadNotify) × ReadMeans (nat_lt 20 data_type) m o
 MeansTo request.Put m o = (m.command ≡ command_number command.WriteNotify) × StatusMeans m o
+
+-- It asks for no display data: what its reply means to it, that means by itself.
+abbrev pub IsPlain : Asked → Type 0
+IsPlain (request.Read data_type count) = data_type ≤ 20
+IsPlain request.Put = Unit {0}
 
 -- An ERROR quotes the complete header of the request that failed, before its text.
 pub record QuotesHeader (m : Fields) (h : Header) : Type 0 where

@@ -1,7 +1,7 @@
 //! Calls of a context that the other programs do not make, against a server: requests by one call,
 //! reads into the memory of a value and reads that nobody waits for, a subscription that is refused
-//! and one that is cancelled, waits that end in their time, at once for a ticket that has ended,
-//! and at the end of the client; and a context that is dropped.
+//! and one that is cancelled, reads with display data, waits that end in their time, at once for a
+//! ticket that has ended, and at the end of the client; and a context that is dropped.
 
 use crate::client::setting;
 use crate::moments::{began, is_within};
@@ -12,7 +12,7 @@ use ca_board::Ticket;
 use ca_client::{Caller, RequestCall};
 use ca_client_context::{Context, Listener, Waited, Work, start};
 use ca_client_core::ChannelState;
-use ca_dbr::{Outcome, Value};
+use ca_dbr::{Display, Limits, Outcome, Value};
 use ca_script::read_records;
 use ca_text::{Mask, Refusal};
 use std::alloc::Global;
@@ -35,6 +35,21 @@ const SOON: u64 = 5_000;
 const READS: u64 = 500;
 
 const LEFT: u64 = 4_000;
+
+/// The limits of GAIN: 100.5, -20.25, 90.5, 80.25, -10.5, -15.75, 95.125 and -18.0625.
+const LIMITS: Limits = Limits {
+    upper_display: 0x4059_2000_0000_0000,
+    lower_display: 0xc034_4000_0000_0000,
+    upper_alarm: 0x4056_a000_0000_0000,
+    upper_warning: 0x4054_1000_0000_0000,
+    lower_warning: 0xc025_0000_0000_0000,
+    lower_alarm: 0xc02f_8000_0000_0000,
+    upper_control: 0x4057_c800_0000_0000,
+    lower_control: 0xc032_1000_0000_0000,
+};
+
+/// Its value: 2.75.
+const GAIN: u64 = 0x4006_0000_0000_0000;
 
 /// A wait that is to end before this.
 fn long() -> Duration {
@@ -77,7 +92,11 @@ pub(crate) fn show<
         + 'static,
     W: Write,
 >(rt: R, alloc: Global, out: &mut W) -> Result<(), Refusal> {
-    let file = read_records(alloc, b"record TEMP LONG 1 quick 21\n")?;
+    let mut file = read_records(alloc, b"record TEMP LONG 1 quick 21\n")?;
+    let display = Arc::new(alloc, Display::new(alloc, b"mA/s", 3, LIMITS)?)?;
+    let value = Value::Doubles(vec![in alloc; GAIN]?);
+    file.records
+        .define_displayed(b"GAIN", 1, false, value, display)?;
     let (places, address) = bound(&rt)?;
     let server = start_server(rt, alloc, places, file, 2)?;
     let shown = show_ended(rt, alloc, address.port(), out);
@@ -162,7 +181,8 @@ fn show_calls<R: Wait + Clock, W: Write>(
     show_requests(rt, alloc, context, channel, &mut caller, out)?;
     show_reads(rt, alloc, context, channel, &mut caller, out)?;
     show_waits(rt, context, channel, &mut caller, out)?;
-    show_subscriptions(rt, alloc, context, channel, &mut caller, out)
+    show_subscriptions(rt, alloc, context, channel, &mut caller, out)?;
+    show_displays(rt, context, channel, &mut caller, out)
 }
 
 /// A hundred reads by one call.
@@ -316,4 +336,43 @@ fn show_subscriptions<R: Wait + Clock, W: Write>(
         "after it was cancelled nothing more is heard:",
         heard.load(Ordering::SeqCst) == 1,
     )
+}
+
+/// Reads with display data, of a record that has them and of one that has not.
+fn show_displays<R: Wait + Clock, W: Write>(
+    rt: &R,
+    context: &Context<Counting>,
+    plain: Handle,
+    caller: &mut Caller,
+    out: &mut W,
+) -> Result<(), Refusal> {
+    let channel = context.open(rt, b"GAIN", 0)?;
+    if !context.wait_live(rt, channel, TURNS) {
+        return Err(Refusal::NotLive);
+    }
+    let ticket = context.get_display(rt, channel, 34, 1)?;
+    let is_gain = match context.wait_for(rt, caller, ticket, long()) {
+        Waited::Outcome(Outcome::Displayed(Value::Doubles(doubles), _, display)) => {
+            doubles.first() == Some(&GAIN)
+                && display.units == *b"mA/s\0\0\0\0"
+                && display.precision == 3
+                && display.limits == LIMITS
+                && display.states.is_empty()
+        }
+        _ => false,
+    };
+    say_yes(
+        out,
+        "a read with display data brings those of its record:",
+        is_gain,
+    )?;
+    // LONG with control limits; the status is ECA_BADTYPE.
+    let ticket = context.get_display(rt, plain, 33, 1)?;
+    let is_refused = match context.wait_for(rt, caller, ticket, long()) {
+        Waited::Outcome(Outcome::Failed(status)) => status.number == 114,
+        _ => false,
+    };
+    say_yes(out, "of a record without them it is refused:", is_refused)?;
+    let is_bad = context.get_display(rt, channel, 20, 1) == Err(Refusal::BadType);
+    say_yes(out, "and so is a type without them:", is_bad)
 }
