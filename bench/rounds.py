@@ -27,6 +27,7 @@ BENCHMARKS = ["answer", "conduct", "replay", "serve", "circuits", "fan_out", "li
 # What the library for C is called among the crates of a benchmark.
 LIBRARY = "lib"
 ROUNDS = 11
+CALLGRIND = ("valgrind", "--tool=callgrind", "--callgrind-out-file=/dev/null")
 
 # A time is a tuple, a function and its arguments, which gives seconds; a count is one which gives instructions a message.
 # A time that is only there as a bound's other side is a peer: the ratio is at most, or at least, a number.
@@ -221,10 +222,14 @@ def clock(words):
 
 def instructions(words, source=os.devnull):
     """The instructions that a run over a file takes, by callgrind."""
-    tool = ["valgrind", "--tool=callgrind", "--callgrind-out-file=/dev/null"]
     with open(source, "rb") as given:
-        done = subprocess.run(tool + list(words), stdin=given, stdout=subprocess.DEVNULL, stderr=subprocess.PIPE, check=True)
-    return int(re.search(rb"Collected : (\d+)", done.stderr).group(1))
+        done = subprocess.run([*CALLGRIND, *words], stdin=given, stdout=subprocess.DEVNULL, stderr=subprocess.PIPE, check=True, text=True, errors="replace")
+    return collected(done.stderr)
+
+
+def collected(said):
+    """The instructions of a run, by what callgrind says at its end."""
+    return int(re.search(r"Collected : (\d+)", said)[1])
 
 
 def most_memory(words, source=os.devnull):
@@ -319,9 +324,9 @@ class Server:
         self.run.stdout.close()
 
 
-def served(program_path, folder, *settings):
-    """`ca serve` with two records of one LONG, which is 21, and these settings in its environment."""
+def served(program_path, folder, *settings, options=()):
+    """`ca serve` with two records of one LONG, which is 21, these settings in its environment or a tool that it runs by, and these options."""
     file = os.path.join(folder, "records")
     with open(file, "w", encoding="ascii") as out:
         out.write("record TEMP LONG 1 quick 21\nrecord SETP LONG 1 quick 21\n")
-    return Server("env", *settings, program_path, "serve", "--records", file, "--listen", "127.0.0.1:0")
+    return Server("env", *settings, program_path, "serve", "--records", file, "--listen", "127.0.0.1:0", *options)
