@@ -1,14 +1,13 @@
 -- Bytes that are long enough have display data.
-use Rattle.std.proofs.Common.{◌≡◌, ◌∙◌, ℕ, zero, suc, ◌+◌, ◌-◌, ◌*◌, ◌<◌, ◌≤◌, pos, All, List, [], ◌++◌, length, take, drop, replicate, refl, sym, ap, subst, arith}
+use Rattle.std.proofs.Common.{◌≡◌, ◌∙◌, ℕ, zero, suc, ◌+◌, ◌-◌, ◌*◌, ◌≤◌, pos, List, [], ◌++◌, length, take, drop, replicate, refl, sym, ap, subst, arith}
 use Rattle.std.specs.Int.{w16, from_be_bytes}
 use Rattle.std.specs.List.{flat_map}
 use Rattle.std.proofs.lemmas.List.{append-nil, length-append, length-drop, length-replicate, length-take-le, nil_from_length}
 use Rattle.std.proofs.lemmas.Nat.{be_bytes_2}
 use Rattle.ca_dbr.specs.declared.data_type.BaseType.{BaseType}
 use Rattle.ca_dbr.specs.declared.data_type.BaseType.TheVariants as base
-use Rattle.ca_dbr.specs.Data.{in_field}
 use Rattle.ca_dbr.specs.DisplayData.{DisplayData}
-use Rattle.ca_dbr.specs.Elements.{Elements, IsValue, base_of, bytes_of, bytes_2, count_of, signed_bytes_2, string_bytes}
+use Rattle.ca_dbr.specs.Elements.{Elements, IsValue, base_of, bytes_of, bytes_2, count_of, string_bytes}
 use Rattle.ca_dbr.specs.Octets.{AreBytes}
 use Rattle.ca_dbr.specs.Reading.{least_size}
 use Rattle.ca_dbr.specs.Types.{element_size}

@@ -1,10 +1,10 @@
 -- What a value of a record with display data converts to is a value of the wanted type.
 use Rattle.std.proofs.Common.{◌≡◌, ◌==◌, ◌&&◌, ℕ, ◌+◌, ◌-◌, ◌^◌, ◌<◌, ◌≤◌, inl, inr, Bool, true, false, T, List, [], ◌∷◌, length, take, drop, All, Option, Some, None, Result, Ok, Err, option_map, refl, sym, ap, subst, ◌∙◌, arith}
-use Rattle.std.specs.Prelude.{ℤ, FitsSigned, from_bits, if◌then◌else◌, nat_lt, option_and_then, replicate, slice_index, slice_index_or, to_bits, unsigned_abs}
+use Rattle.std.specs.Prelude.{ℤ, FitsSigned, from_bits, if◌then◌else◌, nat_lt, not, option_and_then, replicate, slice_index, slice_index_or, to_bits, unsigned_abs}
 use Rattle.std.specs.Int.{w16, w32}
 use Rattle.std.specs.Int.Signed.{mag}
 use Rattle.std.specs.Fmt.{decimal}
-use Rattle.std.specs.Float.{Float, Format, binary32, binary64, round_to_format}
+use Rattle.std.specs.Float.{Float, Format, binary32, binary64, float_is_infinite, round_to_format}
 use Rattle.std.specs.Float.Ieee.{fits, of_int}
 use Rattle.std.specs.Float.Parse.{begins_with, read_float, read_unsigned, read_word, sign_len}
 use Rattle.std.specs.Float.Numeral.{has_digits, minus, nearest_float, scan_numeral}
@@ -35,7 +35,7 @@ use Rattle.ca_display.specs.declared.number.Number.{Number}
 use Rattle.ca_display.specs.declared.number.Number.TheVariants as number
 use Rattle.ca_display.specs.Conversion.{and_number, as_whole, display_converted, double_shown, enum_text, float_shown, in_numbers, of_double, of_float, of_natural, of_text, of_whole, state_of}
 use Rattle.ca_dbr.specs.Data.{in_field}
-use Rattle.ca_display.specs.Number.{as_double, as_float, double_number, float_bits, float_in, float_text, front_float, in_type, text_number, whole_of}
+use Rattle.ca_display.specs.Number.{as_double, as_float, double_number, float_bits, float_in, float_text, front_float, in_range, in_type, is_word, text_number, whole_of}
 use Rattle.ca_display.specs.Real.{in_string, places_of, real_text, signed_units, units_text}
 use Rattle.ca_display.specs.States.{is_named, name_or, state_number, state_text}
 
@@ -119,15 +119,23 @@ front-fits f text = by (read_float f text) (read-fits f text)
     by (Some r) is = only (list_all is_space (drop r.1 text)) r.0 is
     by None is = tt
 
+range-fits : (f : Format) (text : List ℕ) (o : Option Float) → FitsIf f o → FitsIf f (in_range text o)
+range-fits f text None is = tt
+range-fits f text (Some x) is = by (float_is_infinite x && not (is_word text))
+  where
+    by : (b : Bool) → FitsIf f (if b then None else Some x)
+    by true = tt
+    by false = is
+
 text-fits : (text : List ℕ) → AreFits (text_number text)
-text-fits text = by (float_in binary64 text) (front-fits binary64 (drop (prefix_len is_space text) text))
+text-fits text = by (in_range text (float_in binary64 text)) (range-fits binary64 text (float_in binary64 text) (front-fits binary64 (drop (prefix_len is_space text) text)))
   where
     by : (o : Option Float) → FitsIf binary64 o → AreFits (double_number o)
     by (Some x) is = is
     by None is = tt
 
 text-float : (text : List ℕ) (n : ℕ) → float_text text ≡ Ok n → n < 2 ^ 32
-text-float text n h = by (float_in binary32 text) (front-fits binary32 (drop (prefix_len is_space text) text)) h
+text-float text n h = by (in_range text (float_in binary32 text)) (range-fits binary32 text (float_in binary32 text) (front-fits binary32 (drop (prefix_len is_space text) text))) h
   where
     by : (o : Option Float) → FitsIf binary32 o → float_bits o ≡ Ok n → n < 2 ^ 32
     by (Some x) is e = subst (λ (k : ℕ). k < 2 ^ 32) (same_ok (to_bits binary32 x) n e) (let lt = to_bits-lt binary32 x is in omega (arith, lt))
@@ -322,14 +330,14 @@ and-never made each (Ok n) never h = each n h
 and-never {T} made each (Err d) never h = never (ap (λ (k : Refusal). let failed : Result Number Refusal = Err k in failed) (same_err d refusal.OutOfMemory h))
 
 text-never : (text : List ℕ) → NeverLacks (text_number text)
-text-never text h = by (float_in binary64 text) h
+text-never text h = by (in_range text (float_in binary64 text)) h
   where
     by : (o : Option Float) → NeverLacks (double_number o)
     by None e = cc
     by (Some x) e = cc
 
 float_text-never : (text : List ℕ) → NeverLacks (float_text text)
-float_text-never text h = by (float_in binary32 text) h
+float_text-never text h = by (in_range text (float_in binary32 text)) h
   where
     by : (o : Option Float) → NeverLacks (float_bits o)
     by None e = cc

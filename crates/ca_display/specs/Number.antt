@@ -1,8 +1,10 @@
 -- Conversions between numbers for records with display data, element by element.
 use Rattle.std.specs.Prelude.{ℕ, ℤ, Bool, if◌then◌else◌, List, drop, Option, Some, None, Result, Ok}
-use Rattle.std.specs.Prelude.{Err, is_nan, to_bits, option_and_then}
+use Rattle.std.specs.Prelude.{◌&&◌, Err, is_nan, not, to_bits, option_and_then}
+use Rattle.std.specs.Char.{is_ascii_digit}
 use Rattle.std.specs.Int.{w64}
-use Rattle.std.specs.Float.{Float, Format, binary32, binary64, float_to_signed, round_to_format}
+use Rattle.std.specs.Float.{Float, Format, binary32, binary64, float_is_infinite, float_to_signed}
+use Rattle.std.specs.Float.{round_to_format}
 use Rattle.std.specs.Float.Ieee.{of_int}
 use Rattle.std.specs.Float.Parse.{read_float}
 use Rattle.std.specs.List.{list_all, prefix_len}
@@ -43,13 +45,22 @@ front_float f text =
 abbrev pub float_in : Format → List ℕ → Option Float
 float_in f text = front_float f (drop (prefix_len is_space text) text)
 
+-- no digit is in it
+abbrev pub is_word : List ℕ → Bool
+is_word text = list_all (λ c. not (is_ascii_digit c)) text
+
+-- A word may write an infinite number, but digits write none: it is too large for the format.
+abbrev pub in_range : List ℕ → Option Float → Option Float
+in_range text None = None
+in_range text (Some x) = if float_is_infinite x && not (is_word text) then None else Some x
+
 -- the bit pattern of the FLOAT that a text writes
 abbrev pub float_bits : Option Float → Result ℕ Refusal
 float_bits None = Err refusal.BadText
 float_bits (Some x) = Ok (to_bits binary32 x)
 
 abbrev pub float_text : List ℕ → Result ℕ Refusal
-float_text text = float_bits (float_in binary32 text)
+float_text text = float_bits (in_range text (float_in binary32 text))
 
 -- the number that a text writes, which is a DOUBLE
 abbrev pub double_number : Option Float → Result Number Refusal
@@ -57,4 +68,4 @@ double_number None = Err refusal.BadText
 double_number (Some x) = Ok (number.Real x)
 
 abbrev pub text_number : List ℕ → Result Number Refusal
-text_number text = double_number (float_in binary64 text)
+text_number text = double_number (in_range text (float_in binary64 text))

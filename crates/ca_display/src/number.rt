@@ -4,7 +4,7 @@ ghost use Rattle.std.specs.Prelude.{◌≡◌, option_map};
 ghost use Rattle.std.specs.List.{list_all};
 ghost use Rattle.ca_dbr.specs.Number.{clipped, is_space};
 ghost use Rattle.ca_display.specs.Number.{whole_of, in_type, as_float, as_double, float_in};
-ghost use Rattle.ca_display.specs.Number.{float_text, text_number};
+ghost use Rattle.ca_display.specs.Number.{float_text, is_word, text_number};
 
 use ca_dbr::{Target, leading_spaces};
 use ca_text::Refusal;
@@ -92,6 +92,18 @@ fn is_blank(bytes: &[u8]) -> bool
     true
 }
 
+// Whether no digit is among these: a number that they write is a word.
+fn is_word(text: &[u8]) -> bool
+    ensures { result ≡ is_word text.now }
+{
+    for byte in text {
+        if byte.is_ascii_digit() {
+            return false;
+        }
+    }
+    true
+}
+
 // The number that a text writes, if it writes one.
 fn read_float<F: FastFloat>(text: &[u8]) -> Option<F>
     ensures { option_map F.value result ≡ float_in F.format text.now }
@@ -109,23 +121,33 @@ fn read_float<F: FastFloat>(text: &[u8]) -> Option<F>
 }
 
 /// The bit pattern of the FLOAT nearest to the number that a text writes, with spaces before it or
-/// after it. Refused as BadText if it writes none.
+/// after it. Refused as BadText if it writes none, or one that is too large.
 pub fn float_of_text(text: &[u8]) -> Result<u32, Refusal>
     ensures { result ≡ float_text text.now }
 {
     match read_float::<f32>(text) {
         None => Err(Refusal::BadText),
-        Some(x) => Ok(f32_to_bits_with_nan(x)),
+        Some(x) => {
+            if x.is_infinite() && !is_word(text) {
+                return Err(Refusal::BadText);
+            }
+            Ok(f32_to_bits_with_nan(x))
+        }
     }
 }
 
 /// The number that a text writes, as the DOUBLE nearest to it, with spaces before it or after it.
-/// Refused as BadText if it writes none.
+/// Refused as BadText if it writes none, or one that is too large.
 pub fn number_of_text(text: &[u8]) -> Result<Number, Refusal>
     ensures { result ≡ text_number text.now }
 {
     match read_float::<f64>(text) {
         None => Err(Refusal::BadText),
-        Some(x) => Ok(Number::Real(x)),
+        Some(x) => {
+            if x.is_infinite() && !is_word(text) {
+                return Err(Refusal::BadText);
+            }
+            Ok(Number::Real(x))
+        }
     }
 }

@@ -1,4 +1,5 @@
 -- The worked rows, computed.
+use Rattle.std.specs.Float.{float_is_infinite}
 use Rattle.std.specs.Float.Numeral.{scan_numeral}
 use Rattle.std.specs.Float.Parse.{read_float}
 use lib.Ieee.{climb, is_nan, odd, of_bits, of_fields, round, size, span, to_signed}
@@ -51,7 +52,7 @@ unfolding byte_1 bytes_2 bytes_4 bytes_8 signed_bytes_2 signed_bytes_4 string_by
 volt-as-string = refl
 
 pub converts : Converts
-unfolding of_bits of_fields is_nan odd climb span size round read_float scan_numeral to_signed
+unfolding of_bits of_fields is_nan odd climb float_is_infinite span size round read_float scan_numeral to_signed
 converts = (refl, refl, refl, refl, refl, refl, refl)
 
 pub read-faults : ReadFaults

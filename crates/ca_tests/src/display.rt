@@ -641,7 +641,8 @@ fn refused(alloc: Global, bytes: &[u8], base: BaseType, display: &Display) -> Op
     convert_display(alloc, &value, base, display).err()
 }
 
-// Texts as C's strtod and strtof read them.
+// Texts as C's strtod and strtof read them. What these say is too large (ERANGE), a controller of
+// EPICS Base refuses.
 #[test]
 fn texts_as_reals(rt: HostRuntime) -> Result<(), Fail> {
     let alloc = rt.alloc();
@@ -651,7 +652,7 @@ fn texts_as_reals(rt: HostRuntime) -> Result<(), Fail> {
         (b" -1.5e3 ", 0xc097_7000_0000_0000),
         (b"0.1", 0x3fb9_9999_9999_999a),
         (b"9007199254740993", 0x4340_0000_0000_0000),
-        (b"1e400", 0x7ff0_0000_0000_0000),
+        (b"1.7976931348623158e308", 0x7fef_ffff_ffff_ffff),
         (b"-inf", 0xfff0_0000_0000_0000),
     ] {
         let to = Value::Doubles(vec![in alloc; bits]?);
@@ -660,7 +661,19 @@ fn texts_as_reals(rt: HostRuntime) -> Result<(), Fail> {
     // By the DOUBLE nearest to this text, which is a half, it would be the even 0x3f800000.
     let to = Value::Floats(vec![in alloc; 0x3f80_0001]?);
     assert!(rt; reads_as(alloc, b"1.000000059604644775390626", &display, &to)?);
-    for bytes in [b"".as_slice(), b" ", b"mA", b"1.5 mA", b"0x10", b"1 2"] {
+    let to = Value::Floats(vec![in alloc; 0xff80_0000]?);
+    assert!(rt; reads_as(alloc, b"-infinity", &display, &to)?);
+    assert!(rt; refused(alloc, b"1e39", BaseType::Float, &display) == Some(Refusal::BadText));
+    for bytes in [
+        b"".as_slice(),
+        b" ",
+        b"mA",
+        b"1.5 mA",
+        b"0x10",
+        b"1 2",
+        b"1e309",
+        b"-1e400 ",
+    ] {
         assert!(rt; refused(alloc, bytes, BaseType::Double, &display) == Some(Refusal::BadText));
         assert!(rt; refused(alloc, bytes, BaseType::Float, &display) == Some(Refusal::BadText));
         assert!(rt; refused(alloc, bytes, BaseType::Long, &display) == Some(Refusal::BadText));
