@@ -17,6 +17,8 @@ mod dgram;
 #[cfg(test)]
 mod display;
 #[cfg(test)]
+mod display_conversions;
+#[cfg(test)]
 mod drawn;
 #[cfg(test)]
 mod ids;
@@ -36,5 +38,7 @@ mod replay;
 mod script;
 #[cfg(test)]
 mod search;
+#[cfg(test)]
+mod served_displays;
 #[cfg(test)]
 mod served_records;

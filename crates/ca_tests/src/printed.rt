@@ -1,6 +1,6 @@
 //! FLOATs and DOUBLEs as texts with an exponent, or above 10^7, or that are no numbers: what
 //! `cvtDoubleToString` and `cvtFloatToString` wrote, called in `libCom` of EPICS Base 7.0.3.1.
-use crate::display::has_text;
+use crate::display_conversions::has_text;
 use ca_dbr::Value;
 use std::test::Fail;
 
