@@ -194,13 +194,15 @@ def records_of(path: str) -> tuple[list[Record], list[str]]:
 def record_of(path: str, name: str, row: Any) -> Record:
     try:
         given = row.get("limits", {})
-        extra = set(row) - {"type", "value", "count", "units", "precision", "limits", "states"} | set(given) - set(Limits._fields)
+        extra = set(row) - {"type", "value", "count", "units", "precision", "limits", "states", "display"} | set(given) - set(Limits._fields)
         if extra:
             raise ValueError(f"{', '.join(sorted(extra))} is not understood")
+        if not isinstance(row.get("display", False), bool):
+            raise ValueError("display is true or false")
         kind = Type[row["type"]] if "type" in row else None
         limits = Limits(**given) if "limits" in row else None
         return Record(name, row["value"], type=kind, count=row.get("count"), units=row.get("units"), precision=row.get("precision"), limits=limits,
-                      states=row.get("states"))
+                      states=row.get("states"), display=row.get("display", False))
     except (KeyError, TypeError, ValueError) as error:
         what = f"no {error}" if isinstance(error, KeyError) else error
         raise ValueError(f"{path}: {name}: {what}") from error

@@ -42,15 +42,19 @@ class Display(NamedTuple):
     states: Optional[list[str]] = None
 
 
-def display_image(kind: Type, units: Optional[str], precision: Optional[int], limits: Optional[Limits], states: Optional[Sequence[str]]) -> Optional[bytes]:
-    """What an image of a control type has between the severity and the value; None if nothing is given. Raises ValueError if the type has no such."""
-    if units is None and precision is None and limits is None and states is None:
+def display_image(kind: Type, display: bool, units: Optional[str], precision: Optional[int], limits: Optional[Limits],
+                  states: Optional[Sequence[str]]) -> Optional[bytes]:
+    """What an image of a control type has between the severity and the value; None if nothing is given and none is wanted all the same. Raises ValueError if
+    the type has no such."""
+    if not display and units is None and precision is None and limits is None and states is None:
         return None
     for name, it, kinds in (("units", units, NUMBERS), ("precision", precision, REALS), ("limits", limits, NUMBERS), ("states", states, (Type.ENUM,))):
         if it is not None and kind not in kinds:
             raise ValueError(f"a {kind.name} has no {name}")
-    if states is not None:
-        return _states(states)
+    if kind == Type.STRING:
+        return b""
+    if kind == Type.ENUM:
+        return _states(() if states is None else states)
     begin = b""
     if kind in REALS:
         try:

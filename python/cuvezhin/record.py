@@ -60,14 +60,15 @@ class Record:
     precision  of a FLOAT or DOUBLE: how many digits are shown after the point
     limits     of a number: Limits
     states     of an ENUM, which is the type then if no other is given: the names of its states from 0 on, 16 at most, of 25 bytes at most
+    display    says that it has some though none of these is given: a STRING has none of them, and is read in these types then
 
     Raises ValueError if the value is of no type, or not of this one, and if its type has no such display data, or they do not fit.
     """
 
     def __init__(self, name: str, value: Any, *, type: Optional[Type] = None, count: Optional[int] = None, on_put: Optional[OnPut] = None,
                  slow: Optional[bool] = None, units: Optional[str] = None, precision: Optional[int] = None, limits: Optional[Limits] = None,
-                 states: Optional[Sequence[str]] = None) -> None:
-        self.name = name
+                 states: Optional[Sequence[str]] = None, display: bool = False) -> None:
+        self.name, self._has_display = name, display
         if type is None:
             type = kind_of(value) if states is None else Type.ENUM
         self.type = Type(type)
@@ -120,17 +121,18 @@ class Record:
 
     def show(self, *, units: Optional[str] = None, precision: Optional[int] = None, limits: Optional[Limits] = None,
              states: Optional[Sequence[str]] = None) -> None:
-        """Clients are shown these display data from now on, and subscribers with Mask.PROPERTY are told. What is not given stays.
+        """Clients are shown these display data from now on, and subscribers with Mask.PROPERTY are told. What is not given stays;
+        `limits` replaces all limits. The alarm stays until the next put.
 
         Raises ValueError as for a new record."""
         self._set_display(self.units if units is None else units, self.precision if precision is None else precision, self.limits if limits is None else limits,
                           self.states if states is None else states)
-        if self._server and self._display:
+        if self._server and self._display is not None:
             self._server._show(self)
 
     def _set_display(self, units: Optional[str], precision: Optional[int], limits: Optional[Limits], states: Optional[Sequence[str]]) -> None:
         try:
-            self._display = display_image(self.type, units, precision, limits, states)
+            self._display = display_image(self.type, self._has_display, units, precision, limits, states)
         except ValueError as error:
             raise ValueError(f"{self.name}: {error}") from error
         self.units, self.precision, self.limits, self.states = units, precision, limits, states
