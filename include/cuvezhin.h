@@ -175,7 +175,8 @@ void cvz_server_free(cvz_server *server);
 
 /* Serves one more record: its name, the greatest count of elements, whether it is slow (a put with notification makes it busy, until
  * cvz_server_finish), and its value, an image of one of the types 0 to 6. Since 1.3 that may be of a type from 21 to 34: then the record also has
- * the display data of the image, which clients read in these types; what the image lacks is zero or empty. Status and severity are not taken.
+ * the display data of the image, which clients read in these types; what the image lacks is zero or empty. Status and severity are not taken: each put
+ * sets the alarm by the limits, of which one that is NaN is at no value.
  * 0, CVZ_BAD_TYPE, CVZ_SHORT, CVZ_NAME_LENGTH, CVZ_RECORD_EXISTS, CVZ_BAD_COUNT (also for over 16 states) or CVZ_OUT_OF_MEMORY. */
 int32_t cvz_server_add(cvz_server *server, const uint8_t *name, size_t name_size, uint32_t greatest, bool slow, uint16_t type, uint32_t count,
                        const uint8_t *image, size_t image_size);

@@ -5,7 +5,7 @@
  *     ./client 127.0.0.1:5064 put TEMP 22
  *     ./client 127.0.0.1:5064 monitor COUNT 3       three updates
  *
- * Values go as texts, which the server converts; a server of this library converts no FLOAT or DOUBLE. The status is 0 if that was done, within ten
+ * Values go as texts, which the server converts; one of this library to FLOAT or DOUBLE only with display data. The status is 0 if that was done, within ten
  * seconds for each answer. */
 #define _POSIX_C_SOURCE 200809L
 #include <cuvezhin.h>
