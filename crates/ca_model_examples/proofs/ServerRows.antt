@@ -53,7 +53,7 @@ volt-as-string = refl
 
 pub converts : Converts
 unfolding of_bits of_fields is_nan odd climb float_is_infinite span size round read_float scan_numeral to_signed
-converts = (refl, refl, refl, refl, refl, refl, refl)
+converts = (refl, refl, refl, refl, refl, refl, refl, refl)
 
 pub read-faults : ReadFaults
 read-faults = (refl, refl, refl, refl, refl, refl, refl)

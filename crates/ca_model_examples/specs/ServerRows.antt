@@ -195,6 +195,9 @@ text_minus_1 = strings ((45 ∷ 49 ∷ replicate 38 0) ∷ [])
 abbrev pub text_2_75 : Elements
 text_2_75 = strings ((50 ∷ 46 ∷ 55 ∷ 53 ∷ replicate 36 0) ∷ [])
 
+abbrev pub text_1e309 : Elements
+text_1e309 = strings ((49 ∷ 101 ∷ 51 ∷ 48 ∷ 57 ∷ replicate 35 0) ∷ [])
+
 abbrev pub double_2_75 : Elements
 double_2_75 = doubles (4613374868287651840 ∷ [])
 
@@ -211,7 +214,7 @@ in_mm z =
     (longs (z ∷ []))
 
 -- "42" is 42, "4x2" is no number, and "-1" as CHAR lies outside; and what is written to a record
--- with display data has its unit, and is a number towards zero
+-- with display data has its unit, and is a number towards zero, where 1e309 is none
 abbrev pub Converts : Type 0
 Converts =
     (converted text_42 base.Long ≡ Ok (longs (pos 42 ∷ [])))
@@ -221,6 +224,7 @@ Converts =
     × (given_as text_42 (kind_of (in_mm (pos 21))) ≡ Ok (in_mm (pos 42)))
     × (given_as text_2_75 (kind_of (in_mm (pos 21))) ≡ Ok (in_mm (pos 2)))
     × (given_as double_2_75 (kind_of (in_mm (pos 21))) ≡ Ok (in_mm (pos 2)))
+    × (given_as text_1e309 (kind_of (in_mm (pos 21))) ≡ Err refusal.BadText)
 
 -- ---- faults of a read, in their order: of each two that follow each other the first decides
 
