@@ -30,6 +30,9 @@ EXAMPLE = """a file of records, in TOML (or the same in JSON):
   [records.MODE]
   value = 1
   states = ["off", "on"]    the names of an ENUM
+  [records.NOTE]
+  value = "all is well"
+  display = true            a STRING, too, is read in graphic and control types
 """
 ENVIRONMENT = """without --server and --name-server the variables of EPICS say where is searched: EPICS_CA_ADDR_LIST, EPICS_CA_AUTO_ADDR_LIST,
 EPICS_CA_NAME_SERVERS and EPICS_CA_SERVER_PORT. The status is 0 if all was done, 1 if something failed, and 2 if the words are not understood.
